@@ -1,0 +1,7 @@
+use borrow.Author.Needs.{needs}
+use Rattle.listing.specs.Lines.{faultLine}
+use Rattle.listing.proofs.fault_line.Needs as need
+
+pub returns : need.returns
+unfolding faultLine
+returns c = search needs

@@ -1,0 +1,7 @@
+use borrow.Author.Needs.{needs}
+use Rattle.listing.specs.Lines.{numberLine}
+use Rattle.listing.proofs.number_line.Needs as need
+
+pub returns : need.returns
+unfolding numberLine
+returns c = search needs
