@@ -3,3 +3,5 @@ mod list;
 
 pub use list::Bounded;
 pub use list::Full;
+pub use list::FullDebug;
+pub use list::FullPartialEq;
