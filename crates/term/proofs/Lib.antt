@@ -1,0 +1,4 @@
+pub mod Cases
+pub mod Substitutions
+pub mod Tables
+pub mod Leastness

@@ -1,1 +1,4 @@
 pub mod Lawful
+pub mod Words
+pub mod Coding
+pub mod Joins
