@@ -2,3 +2,5 @@ pub mod Cases
 pub mod Substitutions
 pub mod Tables
 pub mod Leastness
+pub mod Codings
+pub mod Laws

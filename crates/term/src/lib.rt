@@ -1,5 +1,6 @@
 // Words as nodes in preorder, and what can be done with them: walk, compare, match, join.
 mod node;
+mod walk;
 
 pub use node::Node;
 pub use node::NodeDebug;
@@ -7,3 +8,6 @@ pub use node::NodePartialEq;
 pub use node::Symbol;
 pub use node::SymbolDebug;
 pub use node::SymbolPartialEq;
+pub use walk::next_word;
+pub use walk::places;
+pub use walk::same_word;
