@@ -4,3 +4,4 @@ pub mod Tables
 pub mod Leastness
 pub mod Codings
 pub mod Laws
+pub mod Pairings

@@ -2,3 +2,4 @@ pub mod Lawful
 pub mod Words
 pub mod Coding
 pub mod Joins
+pub mod Joined

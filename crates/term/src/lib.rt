@@ -1,7 +1,10 @@
 // Words as nodes in preorder, and what can be done with them: walk, compare, match, join.
+mod join;
 mod node;
 mod walk;
 
+pub use join::Pair;
+pub use join::variable_of;
 pub use node::Node;
 pub use node::NodeDebug;
 pub use node::NodePartialEq;
