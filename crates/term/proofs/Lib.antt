@@ -5,3 +5,4 @@ pub mod Leastness
 pub mod Codings
 pub mod Laws
 pub mod Pairings
+pub mod Joinings

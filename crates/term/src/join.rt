@@ -55,3 +55,38 @@ pub fn variable_of<const N: usize>(pairs: &mut Bounded<Pair, N>, a: &[Node], i: 
     let _ = pairs.push(Pair { left: i, right: j });
     count as u16
 }
+
+// Joins the words at `i` and `j`: puts the nodes of their join at the end of `out`, and answers where the words end.
+pub fn join_word<const N: usize>(
+    a: &[Node],
+    i: usize,
+    b: &[Node],
+    j: usize,
+    out: &mut Bounded<Node, N>,
+    pairs: &mut Bounded<Pair, N>,
+) -> (usize, usize)
+    requires left { ⌜ Whole (now a) × (i < length (now a)) ⌝ }
+    requires right { ⌜ Whole (now b) × (j < length (now b)) ⌝ }
+    requires known { ⌜ Inside (now a) (now b) (elems (now pairs)) ⌝ }
+    requires room { ⌜ length (elems (now out)) + (length (now a) - i) ≤ N ⌝ }
+    requires spare { ⌜ length (elems (now pairs)) + (length (now a) - i) ≤ N ⌝ }
+    requires limit { ⌜ N ≤ 65536 ⌝ }
+    ensures { λ r. ⌜ Joined (now (a .entry)) (now (b .entry)) i j (r .0) (r .1) (elems (now (out .entry))) (elems (now (out .exit))) (elems (now (pairs .entry))) (elems (now (pairs .exit))) ⌝ }
+{
+    let node = a[i];
+    if !fellows(node, b[j]) {
+        let x = variable_of(pairs, a, i, b, j);
+        let _ = out.push(Node::Variable(x));
+        return (next_word(a, i), next_word(b, j));
+    }
+    let _ = out.push(node);
+    let count = places(node);
+    let mut p = i + 1;
+    let mut q = j + 1;
+    for n in 0..count {
+        let (next_p, next_q) = join_word(a, p, b, q, out, pairs);
+        p = next_p;
+        q = next_q;
+    }
+    (p, q)
+}

@@ -4,6 +4,7 @@ mod node;
 mod walk;
 
 pub use join::Pair;
+pub use join::join_word;
 pub use join::variable_of;
 pub use node::Node;
 pub use node::NodeDebug;

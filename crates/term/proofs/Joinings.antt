@@ -1,0 +1,197 @@
+-- The join of words at two places, place by place.
+use mathlib.Core.List.{List, [], _∷_, _++_, append-assoc, append-nil}
+use mathlib.Core.Path.{_≡_, refl, sym, _∙_, ap, ap₂}
+use Prim.Native.Nat.{ℕ, zero, suc, _+_, _-_, _≤_, _<_}
+use native.Mathlib.Numerals.{sub-one}
+use native.Mathlib.Omega.{arith}
+use lib.ListN.{length, drop, getD}
+use Rattle.std.proofs.shelf.Lists.{length-push}
+use Rattle.term.specs.declared.join.Pair.{Pair}
+use Rattle.term.specs.declared.node.Node.{Node}
+use Rattle.term.specs.declared.node.Node.the-variants.{Variable, Applied}
+use Rattle.term.specs.declared.node.Symbol.{Symbol}
+use Rattle.term.specs.Words.{Word, var, app, Words, nil, cons, len}
+use Rattle.term.specs.Coding.{placesOf, code, codes, first, after, hd, tl, decode, Whole, wordsAt, wordAt, Next}
+use Rattle.term.specs.Joins.{Table, alike?, place, enter, stand, join, joins}
+use Rattle.term.specs.Joined.{mean, Inside, Fellows, Joined}
+use Rattle.term.proofs.Cases.{by-test}
+use Rattle.term.proofs.Codings.{len-first, len-tl, at-words, at-whole, len-at, on}
+
+len-joins : (us vs : Words) (T : Table) → len us ≡ len vs → len (joins us vs T .0) ≡ len us
+len-joins nil vs T e = refl
+len-joins (cons u us) nil T e = absurd (omega arith)
+len-joins (cons u us) (cons v vs) T e = ap suc (len-joins us vs (join u v T .1) (omega arith))
+
+pub fellows-same : (x y : Node) → Fellows x y → x ≡ y
+fellows-same (Variable x) y h = absurd h
+fellows-same (Applied s k) (Variable y) h = absurd h
+fellows-same (Applied s k) (Applied t l) h = ap₂ Applied (h .0) (h .1)
+
+pub fellows-tl : (x y : Node) (nodes : List Node) → Fellows x y → tl (decode (x ∷ nodes)) ≡ after (placesOf x) (decode nodes)
+unfolding decode
+fellows-tl (Variable x) y nodes h = absurd h
+fellows-tl (Applied s k) y nodes h = refl
+
+-- the same symbol on both sides: it stands over the joins of the places
+record Over (x : Node) (w : Word × Table) (ws : Words × Table) : Type 0 where
+  nodes : code (w .0) ≡ x ∷ codes (ws .0)
+  table : w .1 ≡ ws .1
+
+over-app : (s : Symbol) (k : ℕ) (us vs : Words) (T : Table) → len us ≡ k → len vs ≡ k → Over (Applied s k) (join (app s us) (app s vs) T) (joins us vs T)
+over-app s k us vs T p q =
+    by-test (λ (w : Word × Table). Over (Applied s k) w (joins us vs T)) (alike? s us s vs)
+    (λ _. record { nodes = ap (λ (n : ℕ). Applied s n ∷ codes (joins us vs T .0)) (len-joins us vs T (p ∙ sym q) ∙ p); table = refl })
+    (λ n. absurd (n (refl, p ∙ sym q)))
+
+over : (x y : Node) (r s : List Node) (T : Table) → Whole (x ∷ r) → Whole (y ∷ s) → Fellows x y →
+    Over x (join (hd (decode (x ∷ r))) (hd (decode (y ∷ s))) T) (joins (first (placesOf x) (decode r)) (first (placesOf x) (decode s)) T)
+unfolding decode Whole
+over (Variable x) y r s T v w h = absurd h
+over (Applied f k) (Variable y) r s T v w h = absurd h
+over (Applied f k) (Applied g l) r s T v w h =
+    let d : k ≤ len (decode s) = omega (arith, w .0) in
+    rw (← h .0, ← h .1) (over-app f k (first k (decode r)) (first k (decode s)) T (len-first k (decode r) (v .0)) (len-first k (decode s) d))
+
+-- other nodes: the words join to the variable of their pair
+apart : (x y : Node) (r s : List Node) (T : Table) → Whole (x ∷ r) → Whole (y ∷ s) → ¬ Fellows x y →
+    join (hd (decode (x ∷ r))) (hd (decode (y ∷ s))) T ≡ stand (hd (decode (x ∷ r))) (hd (decode (y ∷ s))) T
+unfolding decode Whole
+apart (Variable x) y r s T v w h = refl
+apart (Applied f k) (Variable y) r s T v w h = refl
+apart (Applied f k) (Applied g l) r s T v w h =
+    let us = first k (decode r) in
+    let vs = first l (decode s) in
+    by-test (λ (z : Word × Table). z ≡ stand (app f us) (app g vs) T) (alike? f us g vs)
+    (λ e. absurd (h (e .0, sym (len-first k (decode r) (v .0)) ∙ e .1 ∙ len-first l (decode s) (w .0))))
+    (λ _. refl)
+
+pub first-step : (m : ℕ) (us : Words) → 0 < m → 1 ≤ len us → first m us ≡ cons (hd us) (first (m - 1) (tl us))
+first-step zero us p q = absurd (omega arith)
+first-step (suc m) nil p q = absurd (omega arith)
+first-step (suc m) (cons u us) p q = rw sub-one
+
+pub after-step : (m : ℕ) (us : Words) → 0 < m → 1 ≤ len us → after (m - 1) (tl us) ≡ after m us
+after-step zero us p q = absurd (omega arith)
+after-step (suc m) nil p q = absurd (omega arith)
+after-step (suc m) (cons u us) p q = rw sub-one
+
+-- of k words from p0 and q0 on, m are still to be joined, from p and q on
+pub record Going (a b : List Node) (k m p q : ℕ) (o : List Node) (s : List Pair) (p0 q0 : ℕ) (o0 : List Node) (s0 : List Pair) : Type 0 where
+  pub from-a : p0 ≤ p
+  pub from-b : q0 ≤ q
+  pub in-a : p ≤ length a
+  pub in-b : q ≤ length b
+  pub more-a : m ≤ len (wordsAt a p)
+  pub more-b : m ≤ len (wordsAt b q)
+  pub rest-a : after m (wordsAt a p) ≡ after k (wordsAt a p0)
+  pub rest-b : after m (wordsAt b q) ≡ after k (wordsAt b q0)
+  pub known : Inside a b s
+  pub room : length o + (length a - p) ≤ length o0 + (length a - p0)
+  pub spare : length s + (length a - p) ≤ length s0 + (length a - p0)
+  pub nodes : o ++ codes (joins (first m (wordsAt a p)) (first m (wordsAt b q)) (mean a b s) .0) ≡ o0 ++ codes (joins (first k (wordsAt a p0)) (first k (wordsAt b q0)) (mean a b s0) .0)
+  pub table : joins (first m (wordsAt a p)) (first m (wordsAt b q)) (mean a b s) .1 ≡ joins (first k (wordsAt a p0)) (first k (wordsAt b q0)) (mean a b s0) .1
+
+-- one word more
+module _ (us vs us' vs' : Words) (m : ℕ) (T T' : Table) (h : 0 < m) (p : 1 ≤ len us) (q : 1 ≤ len vs) (c : us' ≡ tl us) (d : vs' ≡ tl vs) (f : T' ≡ join (hd us) (hd vs) T .1) where
+  more-nodes : (o o' : List Node) → o' ≡ o ++ code (join (hd us) (hd vs) T .0) →
+      o' ++ codes (joins (first (m - 1) us') (first (m - 1) vs') T' .0) ≡ o ++ codes (joins (first m us) (first m vs) T .0)
+  more-nodes o o' e = rw (first-step m us h p, first-step m vs h q, c, d, e, f) (append-assoc o _ _)
+
+  more-table : joins (first (m - 1) us') (first (m - 1) vs') T' .1 ≡ joins (first m us) (first m vs) T .1
+  more-table = rw (first-step m us h p, first-step m vs h q, c, d, f)
+
+module _ (a b : List Node) where
+  pub going-on : (k m m' p q p' q' : ℕ) (o o' : List Node) (s s' : List Pair) (p0 q0 : ℕ) (o0 : List Node) (s0 : List Pair) → 0 < m → m' ≡ m - 1 →
+      Going a b k m p q o s p0 q0 o0 s0 → Joined a b p q p' q' o o' s s' → Going a b k m' p' q' o' s' p0 q0 o0 s0
+  going-on k m m' p q p' q' o o' s s' p0 q0 o0 s0 h e g j =
+      let l : 1 ≤ len (wordsAt a p) = omega (arith, g .more-a) in
+      let r : 1 ≤ len (wordsAt b q) = omega (arith, g .more-b) in
+      let la = ap len (j .left .rest) ∙ len-tl (wordsAt a p) in
+      let lb = ap len (j .right .rest) ∙ len-tl (wordsAt b q) in
+      rw e (record {
+        from-a = omega (arith, g .from-a, j .left .later);
+        from-b = omega (arith, g .from-b, j .right .later);
+        in-a = j .left .within;
+        in-b = j .right .within;
+        more-a = omega (arith, g .more-a, la);
+        more-b = omega (arith, g .more-b, lb);
+        rest-a = ap (after (m - 1)) (j .left .rest) ∙ after-step m (wordsAt a p) h l ∙ g .rest-a;
+        rest-b = ap (after (m - 1)) (j .right .rest) ∙ after-step m (wordsAt b q) h r ∙ g .rest-b;
+        known = j .known;
+        room = omega (arith, g .room, j .room);
+        spare = omega (arith, g .spare, j .spare);
+        nodes = more-nodes (wordsAt a p) (wordsAt b q) (wordsAt a p') (wordsAt b q') m (mean a b s) (mean a b s') h l r (j .left .rest) (j .right .rest) (j .table) o o' (j .nodes) ∙ g .nodes;
+        table = more-table (wordsAt a p) (wordsAt b q) (wordsAt a p') (wordsAt b q') m (mean a b s) (mean a b s') h l r (j .left .rest) (j .right .rest) (j .table) ∙ g .table;
+      })
+
+  module _ (i j : ℕ) (d : Node) (hi : i < length a) (hj : j < length b) (wa : Whole a) (wb : Whole b) where
+    -- the places begin
+    pub going-first : (k m : ℕ) (o : List Node) (s : List Pair) → Fellows (getD a i d) (getD b j d) → k ≡ placesOf (getD a i d) → m ≡ k → Inside a b s → Going a b k m (i + 1) (j + 1) o s (i + 1) (j + 1) o s
+    going-first k m o s h e f w =
+        let pa = on a i 1 d wa (omega arith) (len-at a i hi) in
+        let pb = on b j 1 d wb (omega arith) (len-at b j hj) in
+        let z = ap placesOf (fellows-same (getD a i d) (getD b j d) h) in
+        rw f (record {
+          from-a = omega arith; from-b = omega arith; in-a = omega arith; in-b = omega arith;
+          more-a = omega (arith, pa .enough);
+          more-b = omega (arith, pb .enough);
+          rest-a = refl; rest-b = refl; known = w; room = omega arith; spare = omega arith; nodes = refl; table = refl;
+        })
+
+    -- all places are joined
+    pub going-last : (k m p q : ℕ) (o o1 o' : List Node) (s s' : List Pair) → Fellows (getD a i d) (getD b j d) → k ≡ placesOf (getD a i d) → m ≡ 0 → o1 ≡ o ++ getD a i d ∷ [] →
+        Going a b k m p q o' s' (i + 1) (j + 1) o1 s → Joined a b i j p q o o' s s'
+    going-last k m p q o o1 o' s s' h e f y g =
+        let x = getD a i d in
+        let us = wordsAt a (i + 1) in
+        let vs = wordsAt b (j + 1) in
+        let T = mean a b s in
+        let same = fellows-same x (getD b j d) h in
+        let ea = at-words a i d hi in
+        let eb = at-words b j d hj in
+        let ta = fellows-tl x (getD b j d) (drop (i + 1) a) h in
+        let tb = fellows-tl x (getD b j d) (drop (j + 1) b) h in
+        let u = over x (getD b j d) (drop (i + 1) a) (drop (j + 1) b) T (at-whole a i d hi wa) (at-whole b j d hj wb) h in
+        let long = ap length y ∙ length-push o x in
+        let ra : after 0 (wordsAt a p) ≡ after k us = rw f at (g .rest-a) in
+        let rb : after 0 (wordsAt b q) ≡ after k vs = rw f at (g .rest-b) in
+        let gn : o' ++ [] ≡ o1 ++ codes (joins (first k us) (first k vs) T .0) = rw f at (g .nodes) in
+        let gt : mean a b s' ≡ joins (first k us) (first k vs) T .1 = rw f at (g .table) in
+        record {
+          left = record { later = omega (arith, g .from-a); within = g .in-a; rest = ra ∙ ap (λ (n : ℕ). after n us) e ∙ sym ta ∙ ap tl (sym ea) };
+          right = record { later = omega (arith, g .from-b); within = g .in-b; rest = rb ∙ ap (λ (n : ℕ). after n vs) e ∙ sym tb ∙ ap (λ (z : Node). tl (decode (z ∷ drop (j + 1) b))) same ∙ ap tl (sym eb) };
+          nodes =
+              sym (append-nil o') ∙ gn ∙ ap (λ (z : List Node). z ++ codes (joins (first k us) (first k vs) T .0)) y
+              ∙ append-assoc o (x ∷ []) (codes (joins (first k us) (first k vs) T .0))
+              ∙ ap (λ (l : List Node). o ++ l)
+                (ap (λ (n : ℕ). x ∷ codes (joins (first n us) (first n vs) T .0)) e
+                ∙ sym (u .nodes) ∙ ap₂ (λ (v w : Word). code (join v w T .0)) (ap hd (sym ea)) (ap hd (sym eb)));
+          table =
+              gt ∙ ap (λ (n : ℕ). joins (first n us) (first n vs) T .1) e
+              ∙ sym (u .table) ∙ ap₂ (λ (v w : Word). join v w T .1) (ap hd (sym ea)) (ap hd (sym eb));
+          known = g .known;
+          room = omega (arith, g .room, g .from-a);
+          spare = omega (arith, g .spare, g .from-a);
+        }
+
+    -- other words: the variable of their pair
+    pub stands : (p q n : ℕ) (o o' : List Node) (s s' : List Pair) → ¬ Fellows (getD a i d) (getD b j d) → Next a i p → Next b j q →
+        n ≡ place (mean a b s) (wordAt a i) (wordAt b j) → mean a b s' ≡ enter (mean a b s) (wordAt a i) (wordAt b j) → Inside a b s' → length s' ≤ length s + 1 →
+        o' ≡ o ++ Variable n ∷ [] → Joined a b i j p q o o' s s'
+    stands p q n o o' s s' h l r e f w t y =
+        let ea = at-words a i d hi in
+        let eb = at-words b j d hj in
+        let z : join (wordAt a i) (wordAt b j) (mean a b s) ≡ stand (wordAt a i) (wordAt b j) (mean a b s) =
+            ap₂ (λ (v w : Word). join v w (mean a b s)) (ap hd ea) (ap hd eb)
+            ∙ apart (getD a i d) (getD b j d) (drop (i + 1) a) (drop (j + 1) b) (mean a b s) (at-whole a i d hi wa) (at-whole b j d hj wb) h
+            ∙ ap₂ (λ (v w : Word). stand v w (mean a b s)) (ap hd (sym ea)) (ap hd (sym eb)) in
+        let long = ap length y ∙ length-push o (Variable n) in
+        record {
+          left = l;
+          right = r;
+          nodes = y ∙ ap (λ (m : ℕ). o ++ Variable m ∷ []) e ∙ ap (λ (x : Word × Table). o ++ code (x .0)) (sym z);
+          table = f ∙ ap (λ (x : Word × Table). x .1) (sym z);
+          known = w;
+          room = omega (arith, l .later, l .within);
+          spare = omega (arith, l .later, l .within);
+        }
