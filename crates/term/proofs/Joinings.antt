@@ -2,7 +2,6 @@
 use mathlib.Core.List.{List, [], _∷_, _++_, append-assoc, append-nil}
 use mathlib.Core.Path.{_≡_, refl, sym, _∙_, ap, ap₂}
 use Prim.Native.Nat.{ℕ, zero, suc, _+_, _-_, _≤_, _<_}
-use native.Mathlib.Numerals.{sub-one}
 use native.Mathlib.Omega.{arith}
 use lib.ListN.{length, drop, getD}
 use Rattle.std.proofs.shelf.Lists.{length-push}
@@ -15,7 +14,8 @@ use Rattle.term.specs.Coding.{placesOf, code, codes, first, after, hd, tl, dec
 use Rattle.term.specs.Joins.{Table, alike?, place, enter, stand, join, joins}
 use Rattle.term.specs.Joined.{mean, Inside, Fellows, Joined}
 use Rattle.term.proofs.Cases.{by-test}
-use Rattle.term.proofs.Codings.{len-first, len-tl, at-words, at-whole, len-at, on}
+use Rattle.term.proofs.Codings.{len-first, at-words, at-whole}
+use Rattle.term.proofs.Walked.{Walked, first-step, walked-some, walked-on, walked-first, walked-last}
 
 len-joins : (us vs : Words) (T : Table) → len us ≡ len vs → len (joins us vs T .0) ≡ len us
 len-joins nil vs T e = refl
@@ -26,11 +26,6 @@ pub fellows-same : (x y : Node) → Fellows x y → x ≡ y
 fellows-same (Variable x) y h = absurd h
 fellows-same (Applied s k) (Variable y) h = absurd h
 fellows-same (Applied s k) (Applied t l) h = ap₂ Applied (h .0) (h .1)
-
-pub fellows-tl : (x y : Node) (nodes : List Node) → Fellows x y → tl (decode (x ∷ nodes)) ≡ after (placesOf x) (decode nodes)
-unfolding decode
-fellows-tl (Variable x) y nodes h = absurd h
-fellows-tl (Applied s k) y nodes h = refl
 
 -- the same symbol on both sides: it stands over the joins of the places
 record Over (x : Node) (w : Word × Table) (ws : Words × Table) : Type 0 where
@@ -65,26 +60,10 @@ apart (Applied f k) (Applied g l) r s T v w h =
     (λ e. absurd (h (e .0, sym (len-first k (decode r) (v .0)) ∙ e .1 ∙ len-first l (decode s) (w .0))))
     (λ _. refl)
 
-pub first-step : (m : ℕ) (us : Words) → 0 < m → 1 ≤ len us → first m us ≡ cons (hd us) (first (m - 1) (tl us))
-first-step zero us p q = absurd (omega arith)
-first-step (suc m) nil p q = absurd (omega arith)
-first-step (suc m) (cons u us) p q = rw sub-one
-
-pub after-step : (m : ℕ) (us : Words) → 0 < m → 1 ≤ len us → after (m - 1) (tl us) ≡ after m us
-after-step zero us p q = absurd (omega arith)
-after-step (suc m) nil p q = absurd (omega arith)
-after-step (suc m) (cons u us) p q = rw sub-one
-
 -- of k words from p0 and q0 on, m are still to be joined, from p and q on
 pub record Going (a b : List Node) (k m p q : ℕ) (o : List Node) (s : List Pair) (p0 q0 : ℕ) (o0 : List Node) (s0 : List Pair) : Type 0 where
-  pub from-a : p0 ≤ p
-  pub from-b : q0 ≤ q
-  pub in-a : p ≤ length a
-  pub in-b : q ≤ length b
-  pub more-a : m ≤ len (wordsAt a p)
-  pub more-b : m ≤ len (wordsAt b q)
-  pub rest-a : after m (wordsAt a p) ≡ after k (wordsAt a p0)
-  pub rest-b : after m (wordsAt b q) ≡ after k (wordsAt b q0)
+  pub left : Walked a k m p p0
+  pub right : Walked b k m q q0
   pub known : Inside a b s
   pub room : length o + (length a - p) ≤ length o0 + (length a - p0)
   pub spare : length s + (length a - p) ≤ length s0 + (length a - p0)
@@ -104,39 +83,28 @@ module _ (a b : List Node) where
   pub going-on : (k m m' p q p' q' : ℕ) (o o' : List Node) (s s' : List Pair) (p0 q0 : ℕ) (o0 : List Node) (s0 : List Pair) → 0 < m → m' ≡ m - 1 →
       Going a b k m p q o s p0 q0 o0 s0 → Joined a b p q p' q' o o' s s' → Going a b k m' p' q' o' s' p0 q0 o0 s0
   going-on k m m' p q p' q' o o' s s' p0 q0 o0 s0 h e g j =
-      let l : 1 ≤ len (wordsAt a p) = omega (arith, g .more-a) in
-      let r : 1 ≤ len (wordsAt b q) = omega (arith, g .more-b) in
-      let la = ap len (j .left .rest) ∙ len-tl (wordsAt a p) in
-      let lb = ap len (j .right .rest) ∙ len-tl (wordsAt b q) in
-      rw e (record {
-        from-a = omega (arith, g .from-a, j .left .later);
-        from-b = omega (arith, g .from-b, j .right .later);
-        in-a = j .left .within;
-        in-b = j .right .within;
-        more-a = omega (arith, g .more-a, la);
-        more-b = omega (arith, g .more-b, lb);
-        rest-a = ap (after (m - 1)) (j .left .rest) ∙ after-step m (wordsAt a p) h l ∙ g .rest-a;
-        rest-b = ap (after (m - 1)) (j .right .rest) ∙ after-step m (wordsAt b q) h r ∙ g .rest-b;
+      let l = walked-some a k m p p0 h (g .left) in
+      let r = walked-some b k m q q0 h (g .right) in
+      record {
+        left = walked-on a k m m' p p' p0 h e (g .left) (j .left);
+        right = walked-on b k m m' q q' q0 h e (g .right) (j .right);
         known = j .known;
         room = omega (arith, g .room, j .room);
         spare = omega (arith, g .spare, j .spare);
-        nodes = more-nodes (wordsAt a p) (wordsAt b q) (wordsAt a p') (wordsAt b q') m (mean a b s) (mean a b s') h l r (j .left .rest) (j .right .rest) (j .table) o o' (j .nodes) ∙ g .nodes;
-        table = more-table (wordsAt a p) (wordsAt b q) (wordsAt a p') (wordsAt b q') m (mean a b s) (mean a b s') h l r (j .left .rest) (j .right .rest) (j .table) ∙ g .table;
-      })
+        nodes = rw e (more-nodes (wordsAt a p) (wordsAt b q) (wordsAt a p') (wordsAt b q') m (mean a b s) (mean a b s') h l r (j .left .rest) (j .right .rest) (j .table) o o' (j .nodes) ∙ g .nodes);
+        table = rw e (more-table (wordsAt a p) (wordsAt b q) (wordsAt a p') (wordsAt b q') m (mean a b s) (mean a b s') h l r (j .left .rest) (j .right .rest) (j .table) ∙ g .table);
+      }
 
   module _ (i j : ℕ) (d : Node) (hi : i < length a) (hj : j < length b) (wa : Whole a) (wb : Whole b) where
     -- the places begin
     pub going-first : (k m : ℕ) (o : List Node) (s : List Pair) → Fellows (getD a i d) (getD b j d) → k ≡ placesOf (getD a i d) → m ≡ k → Inside a b s → Going a b k m (i + 1) (j + 1) o s (i + 1) (j + 1) o s
     going-first k m o s h e f w =
-        let pa = on a i 1 d wa (omega arith) (len-at a i hi) in
-        let pb = on b j 1 d wb (omega arith) (len-at b j hj) in
         let z = ap placesOf (fellows-same (getD a i d) (getD b j d) h) in
-        rw f (record {
-          from-a = omega arith; from-b = omega arith; in-a = omega arith; in-b = omega arith;
-          more-a = omega (arith, pa .enough);
-          more-b = omega (arith, pb .enough);
-          rest-a = refl; rest-b = refl; known = w; room = omega arith; spare = omega arith; nodes = refl; table = refl;
-        })
+        record {
+          left = walked-first a i d hi k m wa e f;
+          right = walked-first b j d hj k m wb (e ∙ z) f;
+          known = w; room = omega arith; spare = omega arith; nodes = rw f refl; table = rw f refl;
+        }
 
     -- all places are joined
     pub going-last : (k m p q : ℕ) (o o1 o' : List Node) (s s' : List Pair) → Fellows (getD a i d) (getD b j d) → k ≡ placesOf (getD a i d) → m ≡ 0 → o1 ≡ o ++ getD a i d ∷ [] →
@@ -146,20 +114,16 @@ module _ (a b : List Node) where
         let us = wordsAt a (i + 1) in
         let vs = wordsAt b (j + 1) in
         let T = mean a b s in
-        let same = fellows-same x (getD b j d) h in
+        let z = ap placesOf (fellows-same x (getD b j d) h) in
         let ea = at-words a i d hi in
         let eb = at-words b j d hj in
-        let ta = fellows-tl x (getD b j d) (drop (i + 1) a) h in
-        let tb = fellows-tl x (getD b j d) (drop (j + 1) b) h in
         let u = over x (getD b j d) (drop (i + 1) a) (drop (j + 1) b) T (at-whole a i d hi wa) (at-whole b j d hj wb) h in
         let long = ap length y ∙ length-push o x in
-        let ra : after 0 (wordsAt a p) ≡ after k us = rw f at (g .rest-a) in
-        let rb : after 0 (wordsAt b q) ≡ after k vs = rw f at (g .rest-b) in
         let gn : o' ++ [] ≡ o1 ++ codes (joins (first k us) (first k vs) T .0) = rw f at (g .nodes) in
         let gt : mean a b s' ≡ joins (first k us) (first k vs) T .1 = rw f at (g .table) in
         record {
-          left = record { later = omega (arith, g .from-a); within = g .in-a; rest = ra ∙ ap (λ (n : ℕ). after n us) e ∙ sym ta ∙ ap tl (sym ea) };
-          right = record { later = omega (arith, g .from-b); within = g .in-b; rest = rb ∙ ap (λ (n : ℕ). after n vs) e ∙ sym tb ∙ ap (λ (z : Node). tl (decode (z ∷ drop (j + 1) b))) same ∙ ap tl (sym eb) };
+          left = walked-last a i d hi k m p e f (g .left);
+          right = walked-last b j d hj k m q (e ∙ z) f (g .right);
           nodes =
               sym (append-nil o') ∙ gn ∙ ap (λ (z : List Node). z ++ codes (joins (first k us) (first k vs) T .0)) y
               ∙ append-assoc o (x ∷ []) (codes (joins (first k us) (first k vs) T .0))
@@ -170,8 +134,8 @@ module _ (a b : List Node) where
               gt ∙ ap (λ (n : ℕ). joins (first n us) (first n vs) T .1) e
               ∙ sym (u .table) ∙ ap₂ (λ (v w : Word). join v w T .1) (ap hd (sym ea)) (ap hd (sym eb));
           known = g .known;
-          room = omega (arith, g .room, g .from-a);
-          spare = omega (arith, g .spare, g .from-a);
+          room = omega (arith, g .room, g .left .from);
+          spare = omega (arith, g .spare, g .left .from);
         }
 
     -- other words: the variable of their pair

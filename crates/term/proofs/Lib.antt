@@ -4,5 +4,7 @@ pub mod Tables
 pub mod Leastness
 pub mod Codings
 pub mod Laws
+pub mod Walked
 pub mod Pairings
 pub mod Joinings
+pub mod Matchings

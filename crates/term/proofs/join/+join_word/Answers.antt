@@ -8,7 +8,7 @@ use Rattle.std.proofs.shelf.Tests.{both-ways}
 use Rattle.bounded.specs.Elems.{elems}
 use Rattle.bounded.proofs.Rooms.{pushed-room}
 use Rattle.term.specs.declared.node.Node.the-variants.{Variable}
-use Rattle.term.proofs.Codings.{words-in}
+use Rattle.term.proofs.Walked.{walked-in}
 use Rattle.term.proofs.Joinings.{going-on, going-first, going-last, stands}
 use Rattle.term.proofs.join.+join_word.Needs as need
 
@@ -32,12 +32,12 @@ join-word-next-p-requires g t c κs =
     let go = c .loop-n .inv in
     let new = pushed-room (g .N) (getD (c .args .a .now) (c .args .i) (Variable 0)) (elems (c .args .out .now)) (c .push-2 .result) (elems (c .push-2 .last .self)) (c .push-2 .ensures) (omega (arith, c .pre .left .1)) in
     let long : length (elems (c .push-2 .last .self)) ≡ length (elems (c .args .out .now)) + 1 = ap length new ∙ length-push _ _ in
-    let h = words-in (c .args .a .now) (c .loop-n .p) (c .places-count .result - c .loop-n .n) (omega arith) (go .more-a) in
-    let k = words-in (c .args .b .now) (c .loop-n .q) (c .places-count .result - c .loop-n .n) (omega arith) (go .more-b) in
+    let h = walked-in (c .args .a .now) (c .places-count .result) (c .places-count .result - c .loop-n .n) (c .loop-n .p) (c .args .i + 1) (omega arith) (go .left) in
+    let k = walked-in (c .args .b .now) (c .places-count .result) (c .places-count .result - c .loop-n .n) (c .loop-n .q) (c .args .j + 1) (omega arith) (go .right) in
     let room : length (elems (c .loop-n .out)) + (length (c .args .a .now) - c .loop-n .p) ≤ g .N = omega (arith, go .room) in
     let spare : length (elems (c .loop-n .pairs)) + (length (c .args .a .now) - c .loop-n .p) ≤ g .N = omega (arith, go .spare) in
     let known = go .known in
-    let later = go .from-a in
+    let later = go .left .from in
     search needs
 
 pub loop-n-again : need.loop-n-again

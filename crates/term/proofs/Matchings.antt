@@ -1,0 +1,1 @@
+-- Matching of words, place by place.
