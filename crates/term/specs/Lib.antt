@@ -3,3 +3,4 @@ pub mod Words
 pub mod Coding
 pub mod Joins
 pub mod Joined
+pub mod Matched

@@ -23,7 +23,7 @@ pub struct Pair {
 }
 
 // Whether two nodes are the same symbol with the same count of places.
-fn fellows(x: Node, y: Node) -> bool
+pub fn fellows(x: Node, y: Node) -> bool
     ensures { λ r. ⌜ Decides r (Fellows x y) ⌝ }
 {
     match (x, y) {
