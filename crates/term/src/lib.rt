@@ -7,6 +7,7 @@ mod walk;
 pub use join::Pair;
 pub use join::join_word;
 pub use join::variable_of;
+pub use matching::match_word;
 pub use node::Node;
 pub use node::NodeDebug;
 pub use node::NodePartialEq;

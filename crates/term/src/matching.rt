@@ -28,3 +28,41 @@ fn bind(target: &[Node], j: usize, bound: &mut [Option<usize>], x: u16) -> bool
         }
     }
 }
+
+// Matches the word at `i` of the pattern with the word at `j` of the target. Answers where the words end, or none where
+// no substitution that agrees with the bindings turns the one into the other.
+pub fn match_word(
+    pattern: &[Node],
+    i: usize,
+    target: &[Node],
+    j: usize,
+    bound: &mut [Option<usize>],
+) -> Option<(usize, usize)>
+    requires left { ⌜ Whole (now pattern) × (i < length (now pattern)) ⌝ }
+    requires right { ⌜ Whole (now target) × (j < length (now target)) ⌝ }
+    requires below { ⌜ Below (length (now bound)) (now pattern) ⌝ }
+    requires placed { ⌜ Placed (now target) (now bound) ⌝ }
+    ensures { λ r. ⌜ Matched (now (pattern .entry)) i (now (target .entry)) j (now (bound .entry)) r (now (bound .exit)) ⌝ }
+{
+    let node = pattern[i];
+    if let Node::Variable(x) = node {
+        if !bind(target, j, bound, x) {
+            return None;
+        }
+        return Some((i + 1, next_word(target, j)));
+    }
+    if !fellows(node, target[j]) {
+        return None;
+    }
+    let count = places(node);
+    let mut p = i + 1;
+    let mut q = j + 1;
+    for n in 0..count {
+        let Some((next_p, next_q)) = match_word(pattern, p, target, q, bound) else {
+            return None;
+        };
+        p = next_p;
+        q = next_q;
+    }
+    Some((p, q))
+}
