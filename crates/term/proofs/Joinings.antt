@@ -17,7 +17,7 @@ use Rattle.term.proofs.Cases.{by-test}
 use Rattle.term.proofs.Codings.{len-first, at-words, at-whole}
 use Rattle.term.proofs.Walked.{Walked, first-step, walked-some, walked-on, walked-first, walked-last}
 
-len-joins : (us vs : Words) (T : Table) → len us ≡ len vs → len (joins us vs T .0) ≡ len us
+pub len-joins : (us vs : Words) (T : Table) → len us ≡ len vs → len (joins us vs T .0) ≡ len us
 len-joins nil vs T e = refl
 len-joins (cons u us) nil T e = absurd (omega arith)
 len-joins (cons u us) (cons v vs) T e = ap suc (len-joins us vs (join u v T .1) (omega arith))

@@ -8,3 +8,4 @@ pub mod Walked
 pub mod Pairings
 pub mod Joinings
 pub mod Matchings
+pub mod Kept

@@ -6,7 +6,7 @@ use mathlib.Core.Path.{_≡_, refl, sym, _∙_, ap, ap₂, subst}
 use Prim.Native.Nat.{ℕ, zero, suc, max, _+_, _-_, _≤_, _<_}
 use native.Mathlib.Omega.{arith}
 use lib.Dec.{leb, ltb}
-use lib.ListN.{length, drop, getD, set}
+use lib.ListN.{length, drop, getD, set, replicate}
 use lib.Seq.{getD-set-same, getD-set-other}
 use Rattle.std.specs.Orderings.{Decides, When}
 use Rattle.std.specs.declared.option.Option.{Option}
@@ -27,6 +27,11 @@ use Rattle.term.proofs.Joinings.{fellows-same}
 
 some-same : (p q : ℕ) → Some p ≡ Some q → p ≡ q
 some-same p q e = cc
+
+none-bound : (n x : ℕ) → _≡_ {A = Option ℕ} (getD (replicate n None) x None) None
+none-bound zero x = refl
+none-bound (suc n) zero = refl
+none-bound (suc n) (suc x) = none-bound n x
 
 none-some : (q : ℕ) → None ≡ Some q → ⊥
 none-some q e = let z : _≡_ {A = ℕ} 0 1 = cc in omega arith
@@ -230,3 +235,21 @@ module _ (P B : List Node) where
 
       pub going-stops : (m p q : ℕ) (before bound after : Bindings) → 0 < m → Going P B k m p q bound (i + 1) (j + 1) before → Matched P p B q bound None after → Matched P i B j before None after
       going-stops m p q before bound after h g w θ a t = going-never k m p q bound (i + 1) (j + 1) before h g w θ a (in-places θ .0 t)
+
+-- some substitution agrees with the bindings
+put : List Node → ℕ → Option ℕ → Word
+put target x None = var x
+put target x (Some q) = wordAt target q
+
+pub agreeing : (target : List Node) (bound : Bindings) → (θ : ℕ → Word) × Agrees target bound θ
+unfolding Agrees put
+agreeing target bound = (λ x. put target x (getD bound x None), λ x q e. ap (put target x) e)
+
+-- where nothing is bound, every substitution agrees
+pub none-placed : (target : List Node) (n : ℕ) → Placed target (replicate n None)
+unfolding Placed
+none-placed target n x q e = absurd (none-some q (sym (none-bound n x) ∙ e))
+
+pub none-agrees : (target : List Node) (n : ℕ) (θ : ℕ → Word) → Agrees target (replicate n None) θ
+unfolding Agrees
+none-agrees target n θ x q e = absurd (none-some q (sym (none-bound n x) ∙ e))
