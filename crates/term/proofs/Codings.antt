@@ -70,6 +70,7 @@ len-tl (cons u us) = omega arith
 -- a word's nodes stand for it
 mutual
   unfolding decode
+
   pub decode-code : (u : Word) (nodes : List Node) → decode (code u ++ nodes) ≡ cons u (decode nodes)
   decode-code (var x) nodes = refl
   decode-code (app s us) nodes = rw (decode-codes us nodes, first-len us (decode nodes), after-len us (decode nodes))
@@ -172,5 +173,23 @@ pub word-between : (nodes : List Node) (i j : ℕ) → Whole nodes → i < lengt
 word-between nodes i j w h n =
     let e = word-nodes nodes i j w h n in
     let l : length (code (wordAt nodes i)) ≡ j - i =
-        omega (arith, ap length e, length-append (code (wordAt nodes i)) (drop j nodes), length-drop i nodes, length-drop j nodes, n .later, n .within) in
+    omega (arith, ap length e, length-append (code (wordAt nodes i)) (drop j nodes), length-drop i nodes, length-drop j nodes, n .later, n .within) in
     ap (take (j - i)) e ∙ take-at (code (wordAt nodes i)) (drop j nodes) (j - i) l
+
+mutual
+  pub length-code : (u : Word) → length (code u) ≡ size u
+  length-code (var x) = refl
+  length-code (app s us) = ap suc (length-codes us)
+
+  pub length-codes : (us : Words) → length (codes us) ≡ sizes us
+  length-codes nil = refl
+  length-codes (cons u us) = omega (arith, length-append (code u) (codes us), length-code u, length-codes us)
+
+-- the nodes of one word
+pub code-one : (nodes : List Node) → Whole nodes → len (decode nodes) ≡ 1 → code (hd (decode nodes)) ≡ nodes
+code-one nodes w e = only (decode nodes) e ∙ code-decode nodes w
+  where
+    only : (us : Words) → len us ≡ 1 → code (hd us) ≡ codes us
+    only nil h = absurd (omega arith)
+    only (cons u nil) h = sym (append-nil (code u))
+    only (cons u (cons v vs)) h = absurd (omega arith)

@@ -103,7 +103,11 @@ module _ (a b : List Node) where
         record {
           left = walked-first a i d hi k m wa e f;
           right = walked-first b j d hj k m wb (e ∙ z) f;
-          known = w; room = omega arith; spare = omega arith; nodes = rw f refl; table = rw f refl;
+          known = w;
+          room = omega arith;
+          spare = omega arith;
+          nodes = rw f refl;
+          table = rw f refl;
         }
 
     -- all places are joined
@@ -128,8 +132,8 @@ module _ (a b : List Node) where
               sym (append-nil o') ∙ gn ∙ ap (λ (z : List Node). z ++ codes (joins (first k us) (first k vs) T .0)) y
               ∙ append-assoc o (x ∷ []) (codes (joins (first k us) (first k vs) T .0))
               ∙ ap (λ (l : List Node). o ++ l)
-                (ap (λ (n : ℕ). x ∷ codes (joins (first n us) (first n vs) T .0)) e
-                ∙ sym (u .nodes) ∙ ap₂ (λ (v w : Word). code (join v w T .0)) (ap hd (sym ea)) (ap hd (sym eb)));
+              (ap (λ (n : ℕ). x ∷ codes (joins (first n us) (first n vs) T .0)) e
+              ∙ sym (u .nodes) ∙ ap₂ (λ (v w : Word). code (join v w T .0)) (ap hd (sym ea)) (ap hd (sym eb)));
           table =
               gt ∙ ap (λ (n : ℕ). joins (first n us) (first n vs) T .1) e
               ∙ sym (u .table) ∙ ap₂ (λ (v w : Word). join v w T .1) (ap hd (sym ea)) (ap hd (sym eb));
@@ -146,9 +150,9 @@ module _ (a b : List Node) where
         let ea = at-words a i d hi in
         let eb = at-words b j d hj in
         let z : join (wordAt a i) (wordAt b j) (mean a b s) ≡ stand (wordAt a i) (wordAt b j) (mean a b s) =
-            ap₂ (λ (v w : Word). join v w (mean a b s)) (ap hd ea) (ap hd eb)
-            ∙ apart (getD a i d) (getD b j d) (drop (i + 1) a) (drop (j + 1) b) (mean a b s) (at-whole a i d hi wa) (at-whole b j d hj wb) h
-            ∙ ap₂ (λ (v w : Word). stand v w (mean a b s)) (ap hd (sym ea)) (ap hd (sym eb)) in
+        ap₂ (λ (v w : Word). join v w (mean a b s)) (ap hd ea) (ap hd eb)
+        ∙ apart (getD a i d) (getD b j d) (drop (i + 1) a) (drop (j + 1) b) (mean a b s) (at-whole a i d hi wa) (at-whole b j d hj wb) h
+        ∙ ap₂ (λ (v w : Word). stand v w (mean a b s)) (ap hd (sym ea)) (ap hd (sym eb)) in
         let long = ap length y ∙ length-push o (Variable n) in
         record {
           left = l;

@@ -5,13 +5,14 @@ use mathlib.Core.Path.{_≡_, refl, sym, _∙_, ap, subst}
 use Prim.Native.Nat.{ℕ, zero, suc, max, _+_, _-_, _≤_, _<_}
 use native.Mathlib.Omega.{arith}
 use lib.Dec.{eqb, leb, ltb}
+use lib.ListN.{length}
 use Rattle.std.proofs.shelf.Tests.{and-parts, and-from, leb-true, le-leb, lt-ltb, ltb-true, eqb-true, eq-eqb}
 use Rattle.term.specs.declared.node.Node.{Node}
 use Rattle.term.specs.declared.node.Node.the-variants.{Variable, Applied}
 use Rattle.term.specs.Words.{Word, var, app, Words, nil, cons, len, vars, varss}
 use Rattle.term.specs.Coding.{code, codes, first, after, hd, decode, Whole}
 use Rattle.term.specs.Lawful.{functional, lawful, Numbered, stood, Narrow, Narrows}
-use Rattle.term.proofs.Codings.{_+++_, len-after, len-first, first-after, decode-one}
+use Rattle.term.proofs.Codings.{_+++_, len-after, len-first, first-after, len-decode, code-one}
 
 -- numbering
 pub numbered-more : (n : ℕ) (xs ys : List ℕ) → Numbered n xs → Numbered (stood n xs) ys → Numbered n (xs ++ ys)
@@ -68,6 +69,7 @@ lawful-stand (Applied s k ∷ nodes) need seen e =
 -- the nodes of such words are lawful
 mutual
   unfolding lawful
+
   pub lawful-code : (u : Word) (nodes : List Node) (need seen : ℕ) → Numbered seen (vars u) → Narrow u → lawful nodes need (stood seen (vars u)) ≡ true → lawful (code u ++ nodes) (suc need) seen ≡ true
   lawful-code (var x) nodes need seen o n h =
       let z : suc need - 1 ≡ need = omega arith in
@@ -89,3 +91,30 @@ mutual
 pub lawful-one : (u : Word) → Numbered 0 (vars u) → Narrow u → lawful (code u) 1 0 ≡ true
 unfolding lawful
 lawful-one u o n = rw (append-nil (code u)) at (lawful-code u [] 0 0 o n refl)
+
+-- what one lawful word is
+pub record One (nodes : List Node) : Type 0 where
+  pub whole : Whole nodes
+  pub some : 0 < length nodes
+  pub nodes-of : code (hd (decode nodes)) ≡ nodes
+  pub order : Numbered 0 (vars (hd (decode nodes)))
+  pub narrow : Narrow (hd (decode nodes))
+
+pub one-word : (nodes : List Node) → lawful nodes 1 0 ≡ true → One nodes
+one-word nodes e =
+    let s = lawful-stand nodes 1 0 e in
+    record {
+      whole = s .whole;
+      some = omega (arith, len-decode nodes, s .count);
+      nodes-of = code-one nodes (s .whole) (s .count);
+      order = only-order (decode nodes) (s .count) (s .order);
+      narrow = only-narrow (decode nodes) (s .count) (s .narrow);
+    }
+  where
+    only-order : (us : Words) → len us ≡ 1 → Numbered 0 (varss us) → Numbered 0 (vars (hd us))
+    only-order nil h o = absurd (omega arith)
+    only-order (cons u us) h o = numbered-parts 0 (vars u) (varss us) o .0
+
+    only-narrow : (us : Words) → len us ≡ 1 → Narrows us → Narrow (hd us)
+    only-narrow nil h n = absurd (omega arith)
+    only-narrow (cons u us) h n = n .0

@@ -64,6 +64,7 @@ module _ (u v : Word) where
 
   pub join-least : (t : Word) → Covers t u → Covers t v → Covers t (join u v [] .0)
   unfolding last
-  join-least t c d =
-      (λ x. numbered-join (place last) (c .0 x) (d .0 x),
-       sym (join-sub (place last) (c .0) (d .0) t) ∙ ap₂ (numbered-join (place last)) (c .1) (d .1) ∙ sym (by-last last u v [] (grown-itself last)))
+  join-least t c d = (
+    λ x. numbered-join (place last) (c .0 x) (d .0 x),
+    sym (join-sub (place last) (c .0) (d .0) t) ∙ ap₂ (numbered-join (place last)) (c .1) (d .1) ∙ sym (by-last last u v [] (grown-itself last)),
+  )

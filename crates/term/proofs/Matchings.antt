@@ -44,19 +44,20 @@ bind-new target bound x j h p k e =
     let here : getD (set bound x (Some j)) x None ≡ Some j = getD-set-same bound x (Some j) None k in
     record {
       placed = λ y q f. elim (cases-eq y x) [
-        inl z ↦ let s : j ≡ q = some-same j q (sym here ∙ ap (λ (n : ℕ). getD (set bound x (Some j)) n None) (sym z) ∙ f) in omega arith
+        | inl z ↦ let s : j ≡ q = some-same j q (sym here ∙ ap (λ (n : ℕ). getD (set bound x (Some j)) n None) (sym z) ∙ f) in omega arith
         | inr n ↦ p y q (sym (getD-set-other bound x y (Some j) None n) ∙ f)
       ];
-      back = λ θ a.
-          (λ y q f. elim (cases-eq y x) [
-            inl z ↦ absurd (none-some q (sym e ∙ ap (λ (n : ℕ). getD bound n None) (sym z) ∙ f))
-            | inr n ↦ a y q (getD-set-other bound x y (Some j) None n ∙ f)
-          ],
-          a x j here);
+      back = λ θ a. (
+        λ y q f. elim (cases-eq y x) [
+          | inl z ↦ absurd (none-some q (sym e ∙ ap (λ (n : ℕ). getD bound n None) (sym z) ∙ f))
+          | inr n ↦ a y q (getD-set-other bound x y (Some j) None n ∙ f)
+        ],
+        a x j here,
+      );
       on = λ θ a t y q f. elim (cases-eq y x) [
-        inl z ↦
-          let s : j ≡ q = some-same j q (sym here ∙ ap (λ (n : ℕ). getD (set bound x (Some j)) n None) (sym z) ∙ f) in
-          ap θ z ∙ t ∙ ap (wordAt target) s
+        | inl z ↦
+            let s : j ≡ q = some-same j q (sym here ∙ ap (λ (n : ℕ). getD (set bound x (Some j)) n None) (sym z) ∙ f) in
+            ap θ z ∙ t ∙ ap (wordAt target) s
         | inr n ↦ a y q (sym (getD-set-other bound x y (Some j) None n) ∙ f)
       ];
     }
@@ -90,7 +91,7 @@ below-at n (Variable y ∷ nodes) (suc i) x d b h e = below-at n nodes i x d (b 
 below-at n (Applied s k ∷ nodes) zero x d b h e = absurd (let z : _≡_ {A = ℕ} 0 1 = cc in omega arith)
 below-at n (Applied s k ∷ nodes) (suc i) x d b h e = below-at n nodes i x d b (omega arith) e
 
-below-more : (m n : ℕ) (nodes : List Node) → m ≤ n → Below m nodes → Below n nodes
+pub below-more : (m n : ℕ) (nodes : List Node) → m ≤ n → Below m nodes → Below n nodes
 unfolding Below
 below-more m n [] h b = tt
 below-more m n (Variable x ∷ nodes) h b = (omega (arith, b .0), below-more m n nodes h (b .1))
@@ -134,9 +135,10 @@ turns-places : (x y : Node) (r s : List Node) → Fellows x y → (θ : ℕ → 
 unfolding decode
 turns-places (Variable v) y r s h θ = absurd h
 turns-places (Applied f k) (Variable y) r s h θ = absurd h
-turns-places (Applied f k) (Applied g l) r s h θ =
-    (λ e. app-parts f g (subs θ (first k (decode r))) (first l (decode s)) e .1 ∙ ap (λ (n : ℕ). first n (decode s)) (sym (h .1)),
-     λ e. ap₂ app (h .0) (e ∙ ap (λ (n : ℕ). first n (decode s)) (h .1)))
+turns-places (Applied f k) (Applied g l) r s h θ = (
+  λ e. app-parts f g (subs θ (first k (decode r))) (first l (decode s)) e .1 ∙ ap (λ (n : ℕ). first n (decode s)) (sym (h .1)),
+  λ e. ap₂ app (h .0) (e ∙ ap (λ (n : ℕ). first n (decode s)) (h .1)),
+)
 
 -- one word of several
 turns-first : (us vs : Words) (m : ℕ) → 0 < m → 1 ≤ len us → 1 ≤ len vs → (θ : ℕ → Word) →
@@ -144,9 +146,10 @@ turns-first : (us vs : Words) (m : ℕ) → 0 < m → 1 ≤ len us → 1 ≤ len
     × ((sub θ (hd us) ≡ hd vs) → (subs θ (first (m - 1) (tl us)) ≡ first (m - 1) (tl vs)) → subs θ (first m us) ≡ first m vs)
 turns-first us vs m h p q θ =
     let eu = first-step m us h p in
-    let ev = first-step m vs h q in
-    (λ e. let z : cons (sub θ (hd us)) (subs θ (first (m - 1) (tl us))) ≡ cons (hd vs) (first (m - 1) (tl vs)) = ap (subs θ) (sym eu) ∙ e ∙ ev in (cc, cc),
-     λ a b. ap (subs θ) eu ∙ ap₂ cons a b ∙ sym ev)
+    let ev = first-step m vs h q in (
+      λ e. let z : cons (sub θ (hd us)) (subs θ (first (m - 1) (tl us))) ≡ cons (hd vs) (first (m - 1) (tl vs)) = ap (subs θ) (sym eu) ∙ e ∙ ev in (cc, cc),
+      λ a b. ap (subs θ) eu ∙ ap₂ cons a b ∙ sym ev,
+    )
 
 -- of k words from p0 and q0 on, m are still to be matched, from p and q on
 pub record Going (P B : List Node) (k m p q : ℕ) (bound : Bindings) (p0 q0 : ℕ) (bound0 : Bindings) : Type 0 where
@@ -186,9 +189,11 @@ module _ (P B : List Node) where
     pub match-variable : (x q : ℕ) (before after : Bindings) → getD P i d ≡ Variable x → Next B j q → Narrowed B before after (λ θ. θ x ≡ wordAt B j) → Matched P i B j before (Some (i + 1, q)) after
     match-variable x q before after e n w =
         let is : wordAt P i ≡ var x = ap hd (at-words P i d hi) ∙ turns-variable (getD P i d) (drop (i + 1) P) x e in
-        let none : 0 ≡ placesOf (getD P i d) = sym (ap placesOf e) in
-        (walked-last P i d hi 0 0 (i + 1) none refl (walked-first P i d hi 0 0 wa none refl), n,
-         subst (λ (u : Word). Narrowed B before after (λ θ. sub θ u ≡ wordAt B j)) (sym is) w)
+        let none : 0 ≡ placesOf (getD P i d) = sym (ap placesOf e) in (
+          walked-last P i d hi 0 0 (i + 1) none refl (walked-first P i d hi 0 0 wa none refl),
+          n,
+          subst (λ (u : Word). Narrowed B before after (λ θ. sub θ u ≡ wordAt B j)) (sym is) w,
+        )
 
     pub match-variable-never : (x : ℕ) (before after : Bindings) → getD P i d ≡ Variable x → ((θ : ℕ → Word) → Agrees B before θ → θ x ≡ wordAt B j → ⊥) → Matched P i B j before None after
     match-variable-never x before after e n θ a t =
@@ -225,13 +230,15 @@ module _ (P B : List Node) where
       pub going-last : (m p q : ℕ) (before after : Bindings) → m ≡ 0 → Going P B k m p q after (i + 1) (j + 1) before → Matched P i B j before (Some (p, q)) after
       going-last m p q before after z g =
           let same = ap placesOf (fellows-same (getD P i d) (getD B j d) f) in
-          let done : (θ : ℕ → Word) → subs θ (first m (wordsAt P p)) ≡ first m (wordsAt B q) = λ θ. rw z refl in
-          (walked-last P i d hi k m p e z (g .left), walked-last B j d hj k m q (e ∙ same) z (g .right),
-           record {
-             placed = g .placed;
-             back = λ θ a. let b = g .back θ a (done θ) in (b .0, in-places θ .1 (b .1));
-             on = λ θ a t. g .on θ a (in-places θ .0 t) .0;
-           })
+          let done : (θ : ℕ → Word) → subs θ (first m (wordsAt P p)) ≡ first m (wordsAt B q) = λ θ. rw z refl in (
+            walked-last P i d hi k m p e z (g .left),
+            walked-last B j d hj k m q (e ∙ same) z (g .right),
+            record {
+              placed = g .placed;
+              back = λ θ a. let b = g .back θ a (done θ) in (b .0, in-places θ .1 (b .1));
+              on = λ θ a t. g .on θ a (in-places θ .0 t) .0;
+            },
+          )
 
       pub going-stops : (m p q : ℕ) (before bound after : Bindings) → 0 < m → Going P B k m p q bound (i + 1) (j + 1) before → Matched P p B q bound None after → Matched P i B j before None after
       going-stops m p q before bound after h g w θ a t = going-never k m p q bound (i + 1) (j + 1) before h g w θ a (in-places θ .0 t)

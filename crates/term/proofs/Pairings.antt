@@ -1,6 +1,6 @@
 -- Pairs of places as a table of pairs of words.
 use mathlib.Core.List.{List, [], _∷_, _++_}
-use mathlib.Core.Path.{_≡_, refl, ap}
+use mathlib.Core.Path.{_≡_, refl, sym, ap, subst}
 use Prim.Native.Nat.{ℕ, zero, suc, _<_}
 use native.Mathlib.Omega.{arith}
 use lib.ListN.{length, getD}
@@ -16,6 +16,14 @@ abbrev pub none : Pair
 none = record { left = 0; right = 0 }
 
 module _ (a b : List Node) where
+  pub inside-none : (pairs : List Pair) → pairs ≡ [] → Inside a b pairs
+  unfolding Inside
+  inside-none pairs e = subst (Inside a b) (sym e) tt
+
+  pub mean-none : (pairs : List Pair) → pairs ≡ [] → mean a b pairs ≡ []
+  unfolding mean
+  mean-none pairs e = ap (mean a b) e
+
   pub inside-at : (pairs : List Pair) (k : ℕ) (d : Pair) → Inside a b pairs → k < length pairs → (getD pairs k d .left < length a) × (getD pairs k d .right < length b)
   unfolding Inside
   inside-at [] k d w h = absurd (omega arith)
@@ -37,14 +45,16 @@ module _ (a b : List Node) where
     unfolding mean
     found [] k d h n i = absurd (omega arith)
     found (p ∷ pairs) zero d h n i =
-        let q : Word × Word = (wordAt a (p .left), wordAt b (p .right)) in
-        (by-test (λ (x : ℕ). _≡_ {A = ℕ} x 0) (pair? (u, v) q) (λ _. refl) (λ m. absurd (m i)),
-         by-test (λ (T : Table). _≡_ {A = Table} (q ∷ T) (q ∷ mean a b pairs)) (pair? (u, v) q) (λ _. refl) (λ m. absurd (m i)))
+        let q : Word × Word = (wordAt a (p .left), wordAt b (p .right)) in (
+          by-test (λ (x : ℕ). _≡_ {A = ℕ} x 0) (pair? (u, v) q) (λ _. refl) (λ m. absurd (m i)),
+          by-test (λ (T : Table). _≡_ {A = Table} (q ∷ T) (q ∷ mean a b pairs)) (pair? (u, v) q) (λ _. refl) (λ m. absurd (m i)),
+        )
     found (p ∷ pairs) (suc k) d h n i =
         let q : Word × Word = (wordAt a (p .left), wordAt b (p .right)) in
-        let r = found pairs k d (omega arith) (λ m l. n (suc m) (omega arith)) i in
-        (by-test (λ (x : ℕ). _≡_ {A = ℕ} x (suc k)) (pair? (u, v) q) (λ s. absurd (n 0 (omega arith) s)) (λ _. ap suc (r .0)),
-         by-test (λ (T : Table). _≡_ {A = Table} (q ∷ T) (q ∷ mean a b pairs)) (pair? (u, v) q) (λ _. refl) (λ _. ap (_∷_ q) (r .1)))
+        let r = found pairs k d (omega arith) (λ m l. n (suc m) (omega arith)) i in (
+          by-test (λ (x : ℕ). _≡_ {A = ℕ} x (suc k)) (pair? (u, v) q) (λ s. absurd (n 0 (omega arith) s)) (λ _. ap suc (r .0)),
+          by-test (λ (T : Table). _≡_ {A = Table} (q ∷ T) (q ∷ mean a b pairs)) (pair? (u, v) q) (λ _. refl) (λ _. ap (_∷_ q) (r .1)),
+        )
 
     pub missing : (pairs : List Pair) (d p : Pair) → Of p → ((m : ℕ) → m < length pairs → ¬ Of (getD pairs m d)) →
         (place (mean a b pairs) u v ≡ length pairs) × (enter (mean a b pairs) u v ≡ mean a b (pairs ++ p ∷ []))
@@ -52,6 +62,7 @@ module _ (a b : List Node) where
     missing [] d p i n = (refl, ap (λ (x : Word × Word). x ∷ []) (λ t. (i .0 t, i .1 t)))
     missing (e ∷ pairs) d p i n =
         let q : Word × Word = (wordAt a (e .left), wordAt b (e .right)) in
-        let r = missing pairs d p i (λ m l. n (suc m) (omega arith)) in
-        (by-test (λ (x : ℕ). _≡_ {A = ℕ} x (suc (length pairs))) (pair? (u, v) q) (λ s. absurd (n 0 (omega arith) s)) (λ _. ap suc (r .0)),
-         by-test (λ (T : Table). _≡_ {A = Table} (q ∷ T) (q ∷ mean a b (pairs ++ p ∷ []))) (pair? (u, v) q) (λ s. absurd (n 0 (omega arith) s)) (λ _. ap (_∷_ q) (r .1)))
+        let r = missing pairs d p i (λ m l. n (suc m) (omega arith)) in (
+          by-test (λ (x : ℕ). _≡_ {A = ℕ} x (suc (length pairs))) (pair? (u, v) q) (λ s. absurd (n 0 (omega arith) s)) (λ _. ap suc (r .0)),
+          by-test (λ (T : Table). _≡_ {A = Table} (q ∷ T) (q ∷ mean a b (pairs ++ p ∷ []))) (pair? (u, v) q) (λ s. absurd (n 0 (omega arith) s)) (λ _. ap (_∷_ q) (r .1)),
+        )

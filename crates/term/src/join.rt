@@ -33,7 +33,13 @@ pub fn fellows(x: Node, y: Node) -> bool
 }
 
 // The variable of the pair of the words at `i` and `j`. A pair that is new comes last.
-pub fn variable_of<const N: usize>(pairs: &mut Bounded<Pair, N>, a: &[Node], i: usize, b: &[Node], j: usize) -> u16
+pub fn variable_of<const N: usize>(
+    pairs: &mut Bounded<Pair, N>,
+    a: &[Node],
+    i: usize,
+    b: &[Node],
+    j: usize,
+) -> u16
     requires left { ⌜ Whole (now a) × (i < length (now a)) ⌝ }
     requires right { ⌜ Whole (now b) × (j < length (now b)) ⌝ }
     requires known { ⌜ Inside (now a) (now b) (elems (now pairs)) ⌝ }

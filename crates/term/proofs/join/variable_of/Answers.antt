@@ -34,14 +34,14 @@ returns-then-same-word-2 g c =
     let all = c .as-slice-all .result .now in
     let e = c .as-slice-all .ensures .value in
     let f = found a b (wordAt a (c .args .i)) (wordAt b (c .args .j)) all (c .loop-k .k) none (omega (arith, ap length e, c .len-count .ensures .value)) (c .loop-k .inv)
-        (c .same-word .ensures .0 (c .if-same-word .taken), c .same-word-then-same-word .ensures .0 (c .if-same-word-2 .taken)) in
+    (c .same-word .ensures .0 (c .if-same-word .taken), c .same-word-then-same-word .ensures .0 (c .if-same-word-2 .taken)) in
     record { number = rw (sym e) (sym (f .0)); table = rw (sym e) (sym (f .1)); known = c .pre .known; size = omega arith }
 
 pub loop-k-again : need.loop-k-again
 loop-k-again g c =
     below-more _ _ (c .loop-k .inv)
     (λ s. elim (c .else-same-word .came) [
-      else-same-word·by·then-same-word·else-same-word-2 w ↦ both-ways _ (w .if-same-word-2 .left) (w .same-word-then-same-word .ensures .1 (s .1))
+      | else-same-word·by·then-same-word·else-same-word-2 w ↦ both-ways _ (w .if-same-word-2 .left) (w .same-word-then-same-word .ensures .1 (s .1))
       | else-same-word·by·else-same-word w ↦ both-ways _ (w .if-same-word .left) (c .same-word .ensures .1 (s .0))
     ])
 
