@@ -1,4 +1,12 @@
-// Examples of every layer, run as tests.
+// Examples of every layer: some are theorems of the definitions, in one list, and the others are run as tests.
+ghost use Rattle.examples.specs.Examples.{examples, Hold};
+
+// The list of proved examples.
+pub fn examples_hold()
+    ensures { λ _. ⌜ Hold examples ⌝ }
+{
+}
+
 #[cfg(test)]
 mod tests {
     use bounded::Bounded;

@@ -21,6 +21,7 @@ sort (Positive p) = 1
 sort (Negative p) = 2
 
 unfoldable pub symbol? : Discrete Symbol
+unfolding ℕ-discrete
 symbol? (Function f) (Function g) = elim (ℕ-discrete f g) [ yes e ↦ yes (ap Function e) | no n ↦ no (λ h. n (cc)) ]
 symbol? (Positive p) (Positive q) = elim (ℕ-discrete p q) [ yes e ↦ yes (ap Positive e) | no n ↦ no (λ h. n (cc)) ]
 symbol? (Negative p) (Negative q) = elim (ℕ-discrete p q) [ yes e ↦ yes (ap Negative e) | no n ↦ no (λ h. n (cc)) ]
@@ -36,6 +37,7 @@ abbrev pub Alike : Symbol → Words → Symbol → Words → Type 0
 Alike s us t vs = (s ≡ t) × (len us ≡ len vs)
 
 unfoldable pub alike? : (s : Symbol) (us : Words) (t : Symbol) (vs : Words) → Dec (Alike s us t vs)
+unfolding both? symbol? ℕ-discrete
 alike? s us t vs = both? (symbol? s t) (ℕ-discrete (len us) (len vs))
 
 -- whether two ordered pairs of words are the same
@@ -43,6 +45,7 @@ abbrev pub Same : Word × Word → Word × Word → Type 0
 Same p q = (p .0 ≡ q .0) × (p .1 ≡ q .1)
 
 unfoldable pub pair? : (p q : Word × Word) → Dec (Same p q)
+unfolding both? symbol? ℕ-discrete
 pair? p q = both? (Word-discrete ℕ-discrete symbol? (p .0) (q .0)) (Word-discrete ℕ-discrete symbol? (p .1) (q .1))
 
 -- the ordered pairs that have a variable, in the order in which they first stood; the variable of a pair is its place

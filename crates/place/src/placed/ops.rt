@@ -38,14 +38,10 @@ pub impl Kind for PlaceWord as PlaceKind {
     ghost kind = { places };
 
     fn covers(&self, other: &PlaceWord) -> bool {
+        let pattern = self.nodes.as_slice();
+        let target = other.nodes.as_slice();
         let mut bound: [Option<usize>; 64] = [None; 64];
-        match_word(
-            self.nodes.as_slice(),
-            0,
-            other.nodes.as_slice(),
-            0,
-            &mut bound,
-        ).is_some()
+        match_word(pattern, 0, target, 0, &mut bound).is_some()
     }
 
     // Every place word is tidy.
@@ -56,16 +52,11 @@ pub impl Kind for PlaceWord as PlaceKind {
         ensures passes { λ r. ⌜ r ≡ Ok tt ⌝ }
         ensures value { λ _. ⌜ meaning (now (self .exit)) ≡ join (meaning (now (self .entry))) (meaning (now (other .entry))) [] .0 ⌝ }
     {
+        let left = self.nodes.as_slice();
+        let right = other.nodes.as_slice();
         let mut nodes: Bounded<Node, 64> = Bounded::new(Node::Variable(0));
         let mut pairs: Bounded<Pair, 64> = Bounded::new(Pair { left: 0, right: 0 });
-        let _ = join_word(
-            self.nodes.as_slice(),
-            0,
-            other.nodes.as_slice(),
-            0,
-            &mut nodes,
-            &mut pairs,
-        );
+        let _ = join_word(left, 0, right, 0, &mut nodes, &mut pairs);
         self.nodes = nodes;
         Ok(())
     }

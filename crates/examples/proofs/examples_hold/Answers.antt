@@ -1,0 +1,8 @@
+use mathlib.Core.Path.{refl}
+use native.Mathlib.Decide.{ℕ-discrete}
+use Rattle.term.specs.Joins.{both?, symbol?, alike?, pair?}
+use Rattle.examples.proofs.examples_hold.Needs as need
+
+pub returns : need.returns
+unfolding both? symbol? alike? pair?
+returns c = (refl, (refl, tt))
