@@ -1,0 +1,5 @@
+pub mod Laws
+pub mod Turns
+pub mod Puts
+pub mod Back
+pub mod Exact
