@@ -4,8 +4,7 @@ ghost use Rattle.examples.specs.Examples.{examples, Hold};
 // The list of proved examples.
 pub fn examples_hold()
     ensures { λ _. ⌜ Hold examples ⌝ }
-{
-}
+{}
 
 #[cfg(test)]
 mod tests {

@@ -7,6 +7,7 @@ use bounded::Bounded;
 use term::Node;
 
 pub mod ops;
+mod packing;
 
 // One word of at most 64 nodes: no symbol has more than 8 places, and the variables are numbered from 0 in the order of
 // their first standing.

@@ -24,7 +24,7 @@ use Rattle.word.proofs.Puts.{length-more}
 use Rattle.word.proofs.Turns.{words-none, words-more}
 
 -- a number whose form stands at `at`
-reads-at : (input rest : List ℕ) (at value : ℕ) → value ≤ 65535 → drop at input ≡ form value ++ rest → readNumber input at ≡ Ok (value, at + length (form value))
+pub reads-at : (input rest : List ℕ) (at value : ℕ) → value ≤ 65535 → drop at input ≡ form value ++ rest → readNumber input at ≡ Ok (value, at + length (form value))
 unfolding readNumber
 reads-at input rest at value h e = ap (λ (l : List ℕ). first l at (length input)) e ∙ reads-form value (form value) rest at (length input) (has-form value h)
 
