@@ -1,2 +1,3 @@
 pub mod Turns
 pub mod Truths
+pub mod Showing

@@ -10,7 +10,7 @@ use Rattle.listing.specs.Lines.{numberLine, countLine, faultLine}
 use Rattle.listing.specs.Listed.{after, listedFrom, listed}
 use Rattle.listing.proofs.Turns.{from-end, from-more, from-fault, after-after}
 use Rattle.listing.proofs.Truths.{faithful}
-use Rattle.listing.proofs.list_numbers.Needs as need
+use Rattle.listing.proofs.numbers.list_numbers.Needs as need
 
 pub loop-at-holds : need.loop-at-holds
 unfolding listed

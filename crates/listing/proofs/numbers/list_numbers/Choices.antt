@@ -3,7 +3,7 @@ use Prim.Native.Nat.{ℕ, _-_, _≤_}
 use lib.ListN.{length}
 use Rattle.std.specs.Of.String.{string-bytes}
 use Rattle.listing.specs.Listed.{after, listedFrom, listed}
-use Rattle.listing.proofs.list_numbers.Given as given
+use Rattle.listing.proofs.numbers.list_numbers.Given as given
 
 -- what is still to come makes the text the whole listing
 abbrev pub Inv-loop-at : given.InvT-loop-at

@@ -1,6 +1,6 @@
 use borrow.Author.Needs.{needs}
 use Rattle.listing.specs.Lines.{numberLine}
-use Rattle.listing.proofs.number_line.Needs as need
+use Rattle.listing.proofs.numbers.number_line.Needs as need
 
 pub returns : need.returns
 unfolding numberLine

@@ -1,6 +1,6 @@
 use borrow.Author.Needs.{needs}
 use Rattle.listing.specs.Lines.{faultLine}
-use Rattle.listing.proofs.fault_line.Needs as need
+use Rattle.listing.proofs.numbers.fault_line.Needs as need
 
 pub returns : need.returns
 unfolding faultLine
