@@ -1,4 +1,4 @@
-// Reads packed numbers from standard input and lists them.
+// Reads packed bytes from standard input and lists what they hold: numbers, or one place word.
 use std::env;
 use std::error::AnyError;
 use std::io::Read;
@@ -8,14 +8,26 @@ fn main(rt: LibcRuntime) -> Result<(), AnyError> {
 }
 
 fn run(rt: &LibcRuntime) -> Result<(), AnyError> {
-    if env::args(rt)?.count() > 1 {
-        return Err("usage: inspect < FILE".into());
-    }
+    let mut args = env::args(rt)?;
+    let _ = args.next();
+    let mode = args.next();
     let mut input = Vec::new(rt.alloc());
     rt.stdin().read_to_end(&mut input)?;
-    let listing = listing::list_numbers(rt.alloc(), input.as_slice())?;
-    rt.print(listing.text.as_str())?;
-    if listing.fault.is_some() {
+    let (text, faulty) = match mode {
+        None => {
+            let listing = listing::list_numbers(rt.alloc(), input.as_slice())?;
+            (listing.text, listing.fault.is_some())
+        }
+        Some(word) => {
+            if word.as_str() != "place" {
+                return Err("usage: inspect [place] < FILE".into());
+            }
+            let listing = listing::list_place(rt.alloc(), input.as_slice())?;
+            (listing.text, listing.fault.is_some())
+        }
+    };
+    rt.print(text.as_str())?;
+    if faulty {
         return Err("the input has a fault".into());
     }
     Ok(())

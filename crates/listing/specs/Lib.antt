@@ -1,3 +1,4 @@
 pub mod Lines
 pub mod Listed
+pub mod PlaceLines
 pub mod Shown

@@ -63,7 +63,7 @@ fn fault_line(heap: Global, fault: &NumberFault) -> Result<String, AllocError>
 }
 
 // What is wrong, in words.
-fn sentence(fault: &NumberFault) -> &'static str
+pub(super) fn sentence(fault: &NumberFault) -> &'static str
     ensures { λ r. ⌜ now r ≡ sentence (now (fault .entry)) ⌝ }
 {
     match fault {

@@ -97,3 +97,12 @@ module _ (input : List ℕ) (before : PlaceWord) (new nodes : List Node) (none :
           value = subst (λ (R : Result (List Node) PlaceFault). Reads R before (Ok tt) after) (sym (read-all input nodes end seen gave h)) (refl, same);
           exact = ap packed same ∙ ap packed (sym all) ∙ sym (a .stand .bytes) ∙ take-all (end - 0) input (omega arith);
         }
+
+-- what an answer of a read says of the definition
+pub read-gave : (R : Result (List Node) PlaceFault) (before after : PlaceWord) → Reads R before (Ok tt) after → R ≡ Ok (code (meaning after))
+read-gave (Ok nodes) before after r = ap Ok (sym (r .1))
+read-gave (Err fault) before after r = absurd (clash fault tt (sym (r .0)))
+
+pub read-refused : (R : Result (List Node) PlaceFault) (before after : PlaceWord) (fault : PlaceFault) → Reads R before (Err fault) after → R ≡ Err fault
+read-refused (Ok nodes) before after fault r = absurd (clash fault tt (r .0))
+read-refused (Err d) before after fault r = let h = r .0 in let e : fault ≡ d = cc in ap Err (sym e)
