@@ -6,3 +6,5 @@ pub use classes::Class;
 pub use classes::Issued;
 pub use kind::Kind;
 pub use kind::Refusal;
+pub use kind::RefusalDebug;
+pub use kind::RefusalPartialEq;

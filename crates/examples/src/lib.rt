@@ -18,6 +18,12 @@ mod tests {
     use number::NumberFault;
     use number::NumberFaultDebug;
     use number::NumberFaultPartialEq;
+    use class::Class;
+    use class::Kind;
+    use class::RefusalDebug;
+    use place::PlaceFaultDebug;
+    use place::PlaceKind;
+    use place::PlaceWord;
     use std::test::*;
 
     // A number and its form.
@@ -132,5 +138,78 @@ mod tests {
             "at 0: 0\nfault 3 at byte 1: the last byte of a number of several bytes is 0\n",
         )?;
         check_eq(padded.fault, Some(NumberFault::Padded { first: 1 }))
+    }
+
+    // Packed place words: f5(a1, a1), f5(a2, a2), f5(a1, a2) and f5(a2, a1).
+    const F11: [u8; 6] = [11, 2, 3, 0, 3, 0];
+    const F22: [u8; 6] = [11, 2, 5, 0, 5, 0];
+    const F12: [u8; 6] = [11, 2, 3, 0, 5, 0];
+    const F21: [u8; 6] = [11, 2, 5, 0, 3, 0];
+
+    fn read_place(input: &[u8]) -> Result<PlaceWord, Fail> {
+        let mut place = PlaceWord::new();
+        place.read(input)?;
+        Ok(place)
+    }
+
+    fn lists(rt: &LibcRuntime, input: &[u8], text: &str) -> Result<(), Fail> {
+        let listing = listing::list_place(rt.alloc(), input)?;
+        check_eq(listing.text.as_str(), text)
+    }
+
+    #[test]
+    fn place_words_are_listed(rt: LibcRuntime) -> Result<(), Fail> {
+        lists(&rt, &[0], "X0\n")?;
+        lists(&rt, &[15, 0], "a7\n")?;
+        lists(&rt, &[11, 2, 0, 15, 0], "f5(X0, a7)\n")?;
+        lists(&rt, &[11, 3, 0, 7, 1, 2, 0], "f5(X0, f3(X1), X0)\n")
+    }
+
+    #[test]
+    fn place_faults_are_listed(rt: LibcRuntime) -> Result<(), Fail> {
+        lists(&rt, &[], "fault 1 at byte 0 in number, word, place word: the input ends within a number\n")?;
+        lists(&rt, &[1, 9], "fault 5 at byte 1 in word, place word: a symbol has more than 8 places\n")?;
+        lists(&rt, &[2], "fault 7 at byte 0 in word, place word: a variable is not the next unused one\n")?;
+        lists(&rt, &[0, 0], "fault 9 at byte 1 in place word: bytes are left over\n")?;
+        let mut deep = [1u8; 129];
+        deep[128] = 0;
+        lists(&rt, &deep, "fault 6 at byte 128 in word, place word: the word has more than 64 nodes\n")
+    }
+
+    #[test]
+    fn a_place_word_is_written_as_it_was_read() -> Result<(), Fail> {
+        let place = read_place(&F12)?;
+        let mut out = [9u8; 8];
+        check_eq(place.write(&mut out), Ok(6))?;
+        check_eq(out, [11, 2, 3, 0, 5, 0, 9, 9])?;
+        let mut short = [9u8; 5];
+        check_eq(place.write(&mut short), Err(NoRoom))?;
+        check_eq(short, [9; 5])
+    }
+
+    #[test]
+    fn place_words_cover_and_join(rt: LibcRuntime) -> Result<(), Fail> {
+        let mut rule = read_place(&F11)?;
+        check(!rule.covers(&read_place(&F22)?))?;
+        rule.join(&read_place(&F22)?)?;
+        check_eq(listing::show_place(rt.alloc(), &rule)?.as_str(), "f5(X0, X0)")?;
+        check(rule.covers(&read_place(&F22)?))?;
+        check(!rule.covers(&read_place(&F12)?))?;
+        let mut pair = read_place(&F12)?;
+        pair.join(&read_place(&F21)?)?;
+        check_eq(listing::show_place(rt.alloc(), &pair)?.as_str(), "f5(X0, X1)")
+    }
+
+    #[test]
+    fn a_class_gathers_place_words(rt: LibcRuntime) -> Result<(), Fail> {
+        let mut class = Class::begin(read_place(&F11)?);
+        class.admit(&read_place(&F22)?)?;
+        check(!class.fits(&read_place(&F12)?))?;
+        class.admit(&read_place(&F21)?)?;
+        let issued = class.issue();
+        check(issued.fits(&read_place(&F12)?))?;
+        check_eq(issued.count(), 3)?;
+        let (rule, _) = issued.into_parts();
+        check_eq(listing::show_place(rt.alloc(), &rule)?.as_str(), "f5(X0, X1)")
     }
 }
