@@ -3,7 +3,7 @@ use mathlib.Core.List.{List, [], _∷_}
 use mathlib.Core.Path.{_≡_}
 use Rattle.term.specs.declared.node.Symbol.the-variants.{Function}
 use Rattle.term.specs.Joins.{join}
-use Rattle.term.specs.Words.{Word, var, app, Words, nil, cons}
+use Rattle.term.specs.Words.{Word, var, app, nil, cons}
 
 pub data Example : Type 0 where
   -- the first two words join to the third

@@ -12,15 +12,15 @@ mod tests {
     use bounded::Full;
     use bounded::FullDebug;
     use bounded::FullPartialEq;
+    use class::Class;
+    use class::Kind;
+    use class::RefusalDebug;
     use number::NoRoom;
     use number::NoRoomDebug;
     use number::NoRoomPartialEq;
     use number::NumberFault;
     use number::NumberFaultDebug;
     use number::NumberFaultPartialEq;
-    use class::Class;
-    use class::Kind;
-    use class::RefusalDebug;
     use place::PlaceFaultDebug;
     use place::PlaceKind;
     use place::PlaceWord;
@@ -142,8 +142,11 @@ mod tests {
 
     // Packed place words: f5(a1, a1), f5(a2, a2), f5(a1, a2) and f5(a2, a1).
     const F11: [u8; 6] = [11, 2, 3, 0, 3, 0];
+
     const F22: [u8; 6] = [11, 2, 5, 0, 5, 0];
+
     const F12: [u8; 6] = [11, 2, 3, 0, 5, 0];
+
     const F21: [u8; 6] = [11, 2, 5, 0, 3, 0];
 
     fn read_place(input: &[u8]) -> Result<PlaceWord, Fail> {
@@ -167,13 +170,33 @@ mod tests {
 
     #[test]
     fn place_faults_are_listed(rt: LibcRuntime) -> Result<(), Fail> {
-        lists(&rt, &[], "fault 1 at byte 0 in number, word, place word: the input ends within a number\n")?;
-        lists(&rt, &[1, 9], "fault 5 at byte 1 in word, place word: a symbol has more than 8 places\n")?;
-        lists(&rt, &[2], "fault 7 at byte 0 in word, place word: a variable is not the next unused one\n")?;
-        lists(&rt, &[0, 0], "fault 9 at byte 1 in place word: bytes are left over\n")?;
+        lists(
+            &rt,
+            &[],
+            "fault 1 at byte 0 in number, word, place word: the input ends within a number\n",
+        )?;
+        lists(
+            &rt,
+            &[1, 9],
+            "fault 5 at byte 1 in word, place word: a symbol has more than 8 places\n",
+        )?;
+        lists(
+            &rt,
+            &[2],
+            "fault 7 at byte 0 in word, place word: a variable is not the next unused one\n",
+        )?;
+        lists(
+            &rt,
+            &[0, 0],
+            "fault 9 at byte 1 in place word: bytes are left over\n",
+        )?;
         let mut deep = [1u8; 129];
         deep[128] = 0;
-        lists(&rt, &deep, "fault 6 at byte 128 in word, place word: the word has more than 64 nodes\n")
+        lists(
+            &rt,
+            &deep,
+            "fault 6 at byte 128 in word, place word: the word has more than 64 nodes\n",
+        )
     }
 
     #[test]
@@ -192,12 +215,18 @@ mod tests {
         let mut rule = read_place(&F11)?;
         check(!rule.covers(&read_place(&F22)?))?;
         rule.join(&read_place(&F22)?)?;
-        check_eq(listing::show_place(rt.alloc(), &rule)?.as_str(), "f5(X0, X0)")?;
+        check_eq(
+            listing::show_place(rt.alloc(), &rule)?.as_str(),
+            "f5(X0, X0)",
+        )?;
         check(rule.covers(&read_place(&F22)?))?;
         check(!rule.covers(&read_place(&F12)?))?;
         let mut pair = read_place(&F12)?;
         pair.join(&read_place(&F21)?)?;
-        check_eq(listing::show_place(rt.alloc(), &pair)?.as_str(), "f5(X0, X1)")
+        check_eq(
+            listing::show_place(rt.alloc(), &pair)?.as_str(),
+            "f5(X0, X1)",
+        )
     }
 
     #[test]
@@ -210,6 +239,9 @@ mod tests {
         check(issued.fits(&read_place(&F12)?))?;
         check_eq(issued.count(), 3)?;
         let (rule, _) = issued.into_parts();
-        check_eq(listing::show_place(rt.alloc(), &rule)?.as_str(), "f5(X0, X1)")
+        check_eq(
+            listing::show_place(rt.alloc(), &rule)?.as_str(),
+            "f5(X0, X1)",
+        )
     }
 }

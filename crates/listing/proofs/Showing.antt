@@ -1,14 +1,14 @@
 -- A word in legible form, place by place.
-use mathlib.Core.List.{List, [], _∷_, _++_, append-assoc, append-nil}
+use mathlib.Core.List.{List, _∷_, _++_, append-assoc, append-nil}
 use mathlib.Core.Path.{_≡_, refl, sym, ap, _∙_}
-use Prim.Native.Nat.{ℕ, zero, suc, _+_, _-_, _≤_, _<_}
+use Prim.Native.Nat.{ℕ, _+_, _-_, _≤_, _<_}
 use native.Mathlib.Numerals.{add-one}
 use native.Mathlib.Omega.{arith}
 use lib.ListN.{length, drop, getD}
 use Rattle.term.specs.declared.node.Node.{Node}
 use Rattle.term.specs.declared.node.Node.the-variants.{Variable, Applied}
 use Rattle.term.specs.Coding.{placesOf, first, hd, tl, decode, Whole, wordsAt, wordAt, Next}
-use Rattle.term.specs.Words.{Words, nil, cons, len}
+use Rattle.term.specs.Words.{Words, nil, len}
 use Rattle.term.proofs.Codings.{len-first, at-words, at-whole}
 use Rattle.term.proofs.Walked.{Walked, first-step, walked-some, walked-on, walked-first, walked-last}
 use Rattle.listing.specs.Shown.{symbolName, nodeName, opening, closing, shown, shownFrom}

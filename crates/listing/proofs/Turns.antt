@@ -1,6 +1,6 @@
 -- A listing, turn by turn.
-use mathlib.Core.List.{List, [], _++_, append-assoc}
-use mathlib.Core.Path.{_≡_, refl, sym, ap, _∙_}
+use mathlib.Core.List.{List, _++_, append-assoc}
+use mathlib.Core.Path.{_≡_, refl, sym, ap}
 use Prim.Native.Nat.{ℕ, zero, suc, _+_, _-_, _≤_, _<_}
 use native.Mathlib.Omega.{arith}
 use native.Mathlib.Numerals.{sub-one}
@@ -11,7 +11,7 @@ use Rattle.std.proofs.shelf.Tests.{lt-ltb, le-ltb}
 use Rattle.number.specs.declared.fault.NumberFault.{NumberFault}
 use Rattle.number.specs.Reads.{readNumber}
 use Rattle.listing.specs.Lines.{numberLine, countLine, faultLine}
-use Rattle.listing.specs.Listed.{Told, after, listedFrom, listed}
+use Rattle.listing.specs.Listed.{Told, after, listedFrom}
 
 -- at the end of the input
 pub from-end : (turns : ℕ) (input : List ℕ) (at count : ℕ) → length input ≤ at → listedFrom turns input at count ≡ (countLine count, None)

@@ -1,5 +1,4 @@
 // The listing of packed numbers: a line for each, then the count of them or the fault.
-ghost use mathlib.Core.List.{_++_};
 ghost use mathlib.Core.Path.{_≡_};
 ghost use Rattle.std.specs.Of.String.{string-bytes};
 ghost use Rattle.std.specs.Vec.{made};

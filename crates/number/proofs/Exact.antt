@@ -16,7 +16,8 @@ use Rattle.std.proofs.shelf.Tests.{cases-lt, lt-ltb, le-ltb, ne-eqb}
 use Rattle.number.specs.declared.fault.NumberFault.{NumberFault}
 use Rattle.number.specs.declared.fault.NumberFault.the-variants.{Missing}
 use Rattle.number.specs.Forms.{form, Form}
-use Rattle.number.specs.Reads.{first, second, third, readNumber, Exactly}
+use Rattle.number.specs.Reads.{first, readNumber, Exactly}
+use Rattle.number.proofs.Answers.{clash, ok-same}
 use Rattle.number.proofs.Linkages.{some-value}
 use Rattle.number.proofs.Formed.{only-form}
 
@@ -40,12 +41,6 @@ reads-form v (a ∷ (b ∷ (c ∷ (d ∷ bytes)))) rest at end f = absurd (omega
 -- a value of the form of n bytes at the start of the input, whose place after is n on
 abbrev Stands : List ℕ → ℕ → ℕ × ℕ → Type 0
 Stands input at p = (n : ℕ) × (p .1 ≡ at + n) × (0 < n) × (n ≤ length input) × Form (p .0) (take n input)
-
-clash : {X E : Type 0} (e : E) (x : X) → Err e ≡ Ok x → ⊥
-clash e x h = let z : _≡_ {A = ℕ} 0 1 = cc in omega arith
-
-ok-same : {X E : Type 0} (x y : X) → _≡_ {A = Result X E} (Ok x) (Ok y) → x ≡ y
-ok-same x y h = cc
 
 -- which way a test of the definition went
 picked : {X : Type 0} (m n : ℕ) (x y z : X) → cond (ltb m n) x y ≡ z → ((m < n) × (x ≡ z)) ⊎ ((n ≤ m) × (y ≡ z))

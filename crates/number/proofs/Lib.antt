@@ -1,3 +1,4 @@
+pub mod Answers
 pub mod Linkages
 pub mod Spreads
 pub mod Counts

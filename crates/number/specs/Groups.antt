@@ -1,6 +1,5 @@
 -- How many groups of seven bits a number takes.
 use mathlib.Core.List.{List, [], _∷_}
-use mathlib.Core.Path.{_≡_}
 use Prim.Native.Nat.{ℕ, max, _+_, _-_, _*_, _^_, _<_, _≤_}
 use lib.Count.{leadingZeros}
 use lib.ListN.{getD}

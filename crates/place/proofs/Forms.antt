@@ -1,6 +1,6 @@
 -- Reading and writing the packed form of place words.
 use mathlib.Core.Bool.{true}
-use mathlib.Core.List.{List, [], _∷_, _++_, append-nil}
+use mathlib.Core.List.{List, [], _++_, append-nil}
 use mathlib.Core.Path.{_≡_, refl, sym, ap, _∙_, subst}
 use Prim.Native.Nat.{ℕ, _+_, _-_, _≤_, _<_}
 use native.Mathlib.Omega.{arith}
@@ -17,7 +17,7 @@ use Rattle.word.specs.declared.fault.WordFault.{WordFault}
 use Rattle.word.specs.Packed.{packed, seenAfter}
 use Rattle.word.specs.Reads.{readWords, Gives, Added}
 use Rattle.word.proofs.Laws.{lawful-writable}
-use Rattle.word.proofs.Turns.{clash, ok-same}
+use Rattle.number.proofs.Answers.{clash, ok-same}
 use Rattle.word.proofs.Back.{reads-packed}
 use Rattle.place.specs.declared.fault.PlaceFault.{PlaceFault}
 use Rattle.place.specs.declared.fault.PlaceFault.the-variants.{Word, Left}

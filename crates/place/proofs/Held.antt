@@ -1,8 +1,8 @@
 -- What is known of every place word.
-use mathlib.Core.Bool.{Bool, true, false}
+use mathlib.Core.Bool.{Bool, true}
 use mathlib.Core.List.{List, [], _∷_, _++_}
-use mathlib.Core.Path.{_≡_, refl, sym, ap, ap₂, _∙_, subst}
-use Prim.Native.Nat.{ℕ, _+_, _≤_, _<_}
+use mathlib.Core.Path.{_≡_, sym, ap, ap₂, _∙_, subst}
+use Prim.Native.Nat.{ℕ, _+_, _≤_}
 use native.Mathlib.Omega.{arith}
 use lib.ListN.{length, replicate}
 use Rattle.std.specs.Options.{isSome}
@@ -21,8 +21,7 @@ use Rattle.term.specs.Joined.{mean, Joined}
 use Rattle.term.specs.Lawful.{lawful, Narrow}
 use Rattle.term.specs.Matched.{Bindings, Matched}
 use Rattle.term.specs.Words.{Word, size, Covers}
-use Rattle.term.proofs.Substitutions.{covers-size}
-use Rattle.term.proofs.Codings.{length-code, meant}
+use Rattle.term.proofs.Codings.{length-code}
 use Rattle.term.proofs.Laws.{One, one-word, lawful-one}
 use Rattle.term.proofs.Leastness.{join-left, join-right, join-least}
 use Rattle.term.proofs.Kept.{join-numbered, join-narrow}

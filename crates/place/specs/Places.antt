@@ -1,5 +1,5 @@
 -- What a place word means, and place words as a kind.
-use Prim.Native.Nat.{ℕ, _≤_}
+use Prim.Native.Nat.{_≤_}
 use Rattle.bounded.specs.Elems.{elems}
 use Rattle.class.specs.Kinds.{Subject}
 use Rattle.term.specs.Coding.{hd, decode}

@@ -7,7 +7,7 @@ use native.Mathlib.Numerals.{sub-one}
 use native.Mathlib.Omega.{arith}
 use lib.ListN.{length, take, drop, getD, length-append}
 use Rattle.std.specs.Holes.{between}
-use Rattle.std.proofs.shelf.Lists.{drop-more, length-drop, take-at, drop-drop}
+use Rattle.std.proofs.shelf.Lists.{drop-more, length-drop, take-at}
 use Rattle.term.specs.declared.node.Node.{Node}
 use Rattle.term.specs.declared.node.Node.the-variants.{Variable, Applied}
 use Rattle.term.specs.Words.{Word, var, app, Words, nil, cons, len, size, sizes}

@@ -1,7 +1,7 @@
 -- The join of words at two places, place by place.
 use mathlib.Core.List.{List, [], _∷_, _++_, append-assoc, append-nil}
 use mathlib.Core.Path.{_≡_, refl, sym, _∙_, ap, ap₂}
-use Prim.Native.Nat.{ℕ, zero, suc, _+_, _-_, _≤_, _<_}
+use Prim.Native.Nat.{ℕ, suc, _+_, _-_, _≤_, _<_}
 use native.Mathlib.Omega.{arith}
 use lib.ListN.{length, drop, getD}
 use Rattle.std.proofs.shelf.Lists.{length-push}
@@ -9,8 +9,8 @@ use Rattle.term.specs.declared.join.Pair.{Pair}
 use Rattle.term.specs.declared.node.Node.{Node}
 use Rattle.term.specs.declared.node.Node.the-variants.{Variable, Applied}
 use Rattle.term.specs.declared.node.Symbol.{Symbol}
-use Rattle.term.specs.Words.{Word, var, app, Words, nil, cons, len}
-use Rattle.term.specs.Coding.{placesOf, code, codes, first, after, hd, tl, decode, Whole, wordsAt, wordAt, Next}
+use Rattle.term.specs.Words.{Word, app, Words, nil, cons, len}
+use Rattle.term.specs.Coding.{placesOf, code, codes, first, hd, tl, decode, Whole, wordsAt, wordAt, Next}
 use Rattle.term.specs.Joins.{Table, alike?, place, enter, stand, join, joins}
 use Rattle.term.specs.Joined.{mean, Inside, Fellows, Joined}
 use Rattle.term.proofs.Cases.{by-test}

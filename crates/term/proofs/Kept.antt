@@ -1,12 +1,12 @@
 -- What a join keeps: its variables are numbered as they first stand, and it is no wider than its sides.
 use mathlib.Core.List.{List, [], _∷_, _++_}
 use mathlib.Core.Path.{_≡_, refl, sym, _∙_, ap, subst}
-use Prim.Native.Nat.{ℕ, suc, max, _≤_}
+use Prim.Native.Nat.{ℕ}
 use native.Mathlib.Omega.{arith}
 use lib.ListN.{length}
-use Rattle.term.specs.Words.{Word, var, app, Words, nil, cons, len, vars, varss}
+use Rattle.term.specs.Words.{Word, var, app, Words, nil, cons, vars, varss}
 use Rattle.term.specs.Joins.{Table, alike?, place, enter, join, joins}
-use Rattle.term.specs.Lawful.{functional, Numbered, stood, Narrow, Narrows}
+use Rattle.term.specs.Lawful.{Numbered, stood, Narrow, Narrows}
 use Rattle.term.proofs.Cases.{by-test}
 use Rattle.term.proofs.Tables.{place-within, length-enter}
 use Rattle.term.proofs.Laws.{numbered-more, stood-more}

@@ -1,12 +1,12 @@
 -- Lawful nodes stand for words with numbered variables and few places, and such words have lawful nodes.
-use mathlib.Core.Bool.{Bool, true, false, _&&_}
+use mathlib.Core.Bool.{true, _&&_}
 use mathlib.Core.List.{List, [], _∷_, _++_, append-assoc, append-nil}
 use mathlib.Core.Path.{_≡_, refl, sym, _∙_, ap, subst}
-use Prim.Native.Nat.{ℕ, zero, suc, max, _+_, _-_, _≤_, _<_}
+use Prim.Native.Nat.{ℕ, suc, max, _+_, _-_, _≤_, _<_}
 use native.Mathlib.Omega.{arith}
-use lib.Dec.{eqb, leb, ltb}
+use lib.Dec.{leb, ltb}
 use lib.ListN.{length}
-use Rattle.std.proofs.shelf.Tests.{and-parts, and-from, leb-true, le-leb, lt-ltb, ltb-true, eqb-true, eq-eqb}
+use Rattle.std.proofs.shelf.Tests.{and-parts, and-from, leb-true, le-leb, lt-ltb, ltb-true, eqb-true}
 use Rattle.term.specs.declared.node.Node.{Node}
 use Rattle.term.specs.declared.node.Node.the-variants.{Variable, Applied}
 use Rattle.term.specs.Words.{Word, var, app, Words, nil, cons, len, vars, varss}

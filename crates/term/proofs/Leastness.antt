@@ -1,10 +1,9 @@
 -- The join of two words is least over both.
-use mathlib.Core.List.{List, []}
+use mathlib.Core.List.{[]}
 use mathlib.Core.Logic.{ite}
 use mathlib.Core.Path.{_≡_, refl, sym, _∙_, ap, ap₂}
 use Prim.Native.Nat.{ℕ}
-use Rattle.term.specs.declared.node.Symbol.{Symbol}
-use Rattle.term.specs.Words.{Word, var, app, Words, nil, cons, len, sub, subs, Covers}
+use Rattle.term.specs.Words.{Word, var, app, Words, nil, cons, sub, subs, Covers}
 use Rattle.term.specs.Joins.{Table, place, alike?, join, joins}
 use Rattle.term.proofs.Cases.{by-test-both, test-yes}
 use Rattle.term.proofs.Substitutions.{len-subs}

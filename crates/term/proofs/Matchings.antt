@@ -1,7 +1,7 @@
 -- Matching of words, place by place.
 use mathlib.Core.Bool.{Bool, true, false, _&&_}
 use mathlib.Core.List.{List, [], _∷_}
-use mathlib.Core.Logic.{_⊎_, inl, inr, _≢_}
+use mathlib.Core.Logic.{inl, inr, _≢_}
 use mathlib.Core.Path.{_≡_, refl, sym, _∙_, ap, ap₂, subst}
 use Prim.Native.Nat.{ℕ, zero, suc, max, _+_, _-_, _≤_, _<_}
 use native.Mathlib.Omega.{arith}
@@ -15,7 +15,7 @@ use Rattle.std.proofs.shelf.Tests.{cases-eq, false≢true, and-parts, leb-true}
 use Rattle.term.specs.declared.node.Node.{Node}
 use Rattle.term.specs.declared.node.Node.the-variants.{Variable, Applied}
 use Rattle.term.specs.declared.node.Symbol.{Symbol}
-use Rattle.term.specs.Words.{Word, var, app, Words, nil, cons, len, sub, subs}
+use Rattle.term.specs.Words.{Word, var, app, Words, cons, len, sub, subs}
 use Rattle.term.specs.Coding.{placesOf, first, hd, tl, decode, Whole, wordsAt, wordAt, Next}
 use Rattle.term.specs.Joined.{Fellows}
 use Rattle.term.specs.Lawful.{functional, lawful}

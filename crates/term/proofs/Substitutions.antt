@@ -1,7 +1,7 @@
 -- Substitutions, and covering among words as a relation.
-use mathlib.Core.List.{List, List·Memᴰ as In, List·Memᴰ·head as here, Memᴰ·append-left as in-left, Memᴰ·append-right as in-right}
+use mathlib.Core.List.{List·Memᴰ as In, List·Memᴰ·head as here, Memᴰ·append-left as in-left, Memᴰ·append-right as in-right}
 use mathlib.Core.Path.{_≡_, refl, sym, _∙_, ap, ap₂}
-use Prim.Native.Nat.{ℕ, suc, _+_, _≤_, _<_}
+use Prim.Native.Nat.{ℕ, suc, _≤_, _<_}
 use native.Mathlib.Omega.{arith}
 use Rattle.term.specs.Words.{Word, var, app, Words, nil, cons, len, size, sizes, vars, varss, sub, subs, Covers}
 

@@ -1,13 +1,13 @@
 -- The table of pairs of a join: a pair keeps its variable, and a variable its pair.
-use mathlib.Core.List.{List, [], _∷_}
+use mathlib.Core.List.{[], _∷_}
 use mathlib.Core.Logic.{ite}
 use mathlib.Core.Path.{_≡_, refl, sym, _∙_, ap, ap₂}
-use Prim.Native.Nat.{ℕ, suc, max, _+_, _≤_, _<_}
+use Prim.Native.Nat.{ℕ, suc, max, _≤_, _<_}
 use native.Mathlib.Omega.{arith}
 use lib.ListN.{length, getD}
 use Rattle.term.specs.Words.{Word, var, app, Words, nil, cons, len, sub, subs}
 use Rattle.term.specs.Joins.{Table, Same, pair?, place, enter, alike?, join, joins}
-use Rattle.term.proofs.Cases.{by-test, by-test-both}
+use Rattle.term.proofs.Cases.{by-test}
 
 abbrev pub Known : Table → Word → Word → Type 0
 Known T u v = place T u v < length T

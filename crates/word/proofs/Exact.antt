@@ -28,7 +28,8 @@ use Rattle.word.specs.Packed.{packedNode, packed, seenAfter, nodeNumber}
 use Rattle.word.specs.Reads.{gave, nodeAt, readWords, Gives, Stand, Added, Exactly}
 use Rattle.word.proofs.Laws.{packed-none, packed-more, seen-none, seen-variable, seen-symbol, lawful-none, lawful-variable, lawful-symbol, between-join}
 use Rattle.word.proofs.Back.{reads-packed}
-use Rattle.word.proofs.Turns.{clash, ok-same, then-made, andThen-made, picked}
+use Rattle.number.proofs.Answers.{clash, ok-same}
+use Rattle.word.proofs.Turns.{then-made, andThen-made, picked}
 
 -- a node stands from `at` to the place after it
 record NodeStands (seen : ℕ) (input : List ℕ) (at : ℕ) (r : Read) : Type 0 where

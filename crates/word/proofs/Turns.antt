@@ -7,26 +7,18 @@ use Prim.Native.Nat.{ℕ, zero, suc, _+_, _-_, _/_, _%_, _≤_, _<_}
 use native.Mathlib.Numerals.{sub-one}
 use native.Mathlib.Omega.{arith}
 use lib.Dec.{leb, eqb}
-use lib.ListN.{length}
 use Rattle.std.specs.declared.result.Result.{Result}
 use Rattle.std.specs.declared.result.Result.the-variants.{Ok, Err}
 use Rattle.std.proofs.shelf.Tests.{leb-true}
-use Rattle.bounded.specs.Elems.{Pushed}
-use Rattle.bounded.specs.declared.list.Full.{Full}
 use Rattle.number.specs.declared.fault.NumberFault.{NumberFault}
 use Rattle.number.specs.Reads.{readNumber}
 use Rattle.term.specs.declared.node.Node.{Node}
 use Rattle.word.specs.declared.fault.WordFault.{WordFault}
+use Rattle.number.proofs.Answers.{clash, ok-same}
 use Rattle.word.specs.declared.fault.WordFault.the-variants.{Number, Nodes}
 use Rattle.word.specs.declared.reading.Read.{Read}
 use Rattle.word.specs.Reads.{nodeAt, readWords, Gives}
 use Rattle.word.specs.Then.{then, andThen}
-
-pub clash : {X E : Type 0} (e : E) (x : X) → Err e ≡ Ok x → ⊥
-clash e x h = let z : _≡_ {A = ℕ} 0 1 = cc in omega arith
-
-pub ok-same : {X E : Type 0} (x y : X) → _≡_ {A = Result X E} (Ok x) (Ok y) → x ≡ y
-ok-same x y h = cc
 
 -- what was answered on the way to an answer
 pub then-made : {X Y E F : Type 0} (f : E → F) (r : Result X E) (next : X → Result Y F) (y : Y) → then f r next ≡ Ok y → (x : X) × (r ≡ Ok x) × (next x ≡ Ok y)
@@ -102,8 +94,3 @@ gives-fault S R r fault after same e d = let z : R ≡ Err fault = cc in rw z (d
 
 pub gives-read : (S R : Result (List Node × ℕ × ℕ) WordFault) (at seen : ℕ) (after : List Node) → S ≡ R → S ≡ Ok (after, at, seen) → Gives R after (Ok (at, seen)) after
 gives-read S R at seen after same e = let z : R ≡ Ok (after, at, seen) = cc in rw z (refl, refl)
-
--- a push where there is room
-pub has-room : {T : Type 0} (N : ℕ) (x : T) (before : List T) (r : Result (Unit {0}) Full) (after : List T) → length before < N → Pushed N x before r after → after ≡ before ++ x ∷ []
-has-room N x before (Ok _) after h p = p .1
-has-room N x before (Err _) after h p = absurd (omega (arith, p .0))

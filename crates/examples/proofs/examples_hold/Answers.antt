@@ -1,5 +1,4 @@
 use mathlib.Core.Path.{refl}
-use native.Mathlib.Decide.{ℕ-discrete}
 use Rattle.term.specs.Joins.{both?, symbol?, alike?, pair?}
 use Rattle.examples.proofs.examples_hold.Needs as need
 

@@ -1,6 +1,5 @@
 // The packed form of place words.
 ghost use mathlib.Core.Path.{_≡_};
-ghost use Rattle.std.specs.Vec.{made};
 ghost use Rattle.std.specs.declared.result.Result.the-variants.{Ok};
 ghost use Rattle.word.specs.Writes.{Wrote};
 ghost use Rattle.term.specs.Coding.{code};

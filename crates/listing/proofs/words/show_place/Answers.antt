@@ -1,9 +1,8 @@
 use mathlib.Core.List.{List, _++_}
-use mathlib.Core.Path.{_≡_, sym, ap, _∙_, subst}
+use mathlib.Core.Path.{sym, ap, _∙_, subst}
 use Prim.Native.Nat.{ℕ}
 use native.Mathlib.Omega.{arith}
 use lib.ListN.{length}
-use Rattle.term.specs.declared.node.Node.{Node}
 use Rattle.term.specs.Coding.{Whole, wordAt}
 use Rattle.term.proofs.Codings.{meant}
 use Rattle.place.specs.Places.{meaning}

@@ -1,4 +1,3 @@
-use mathlib.Core.Path.{sym}
 use Rattle.term.proofs.Matchings.{bind-new, bind-asked, placed-at}
 use Rattle.term.proofs.matching.bind.Needs as need
 

@@ -1,7 +1,6 @@
-use mathlib.Core.Path.{_≡_, sym, ap, _∙_}
+use mathlib.Core.Path.{ap, _∙_}
 use Prim.Native.Nat.{ℕ, _+_, _-_}
 use native.Mathlib.Omega.{arith}
-use lib.ListN.{length}
 use Rattle.term.specs.declared.node.Node.the-variants.{Variable}
 use Rattle.term.specs.Coding.{wordsAt, after}
 use Rattle.term.proofs.Codings.{words-in, len-at, len-rest, after-one, on}

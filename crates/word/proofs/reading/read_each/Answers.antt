@@ -10,7 +10,8 @@ use Rattle.bounded.specs.Elems.{elems}
 use Rattle.number.specs.Reads.{readNumber}
 use Rattle.word.specs.declared.fault.WordFault.the-variants.{Number, Nodes}
 use Rattle.word.specs.Reads.{nodeAt, readWords}
-use Rattle.word.proofs.Turns.{words-none, words-fault, words-full, words-refused, words-more, node-places, gives-fault, gives-read, has-room}
+use Rattle.bounded.proofs.Rooms.{pushed-room}
+use Rattle.word.proofs.Turns.{words-none, words-fault, words-full, words-refused, words-more, node-places, gives-fault, gives-read}
 use Rattle.word.proofs.reading.read_each.Needs as need
 
 pub loop-need-holds : need.loop-need-holds
@@ -88,7 +89,7 @@ loop-need-less g c =
     let node = c .in-Continue-read .read .node in
     let more = elems (c .push .last .self) in
     let room : length held < g .N = omega arith in
-    let pushed : more ≡ held ++ node ∷ [] = has-room (g .N) node held (c .push .result) more room (c .push .ensures) in
+    let pushed : more ≡ held ++ node ∷ [] = pushed-room (g .N) node held (c .push .result) more (c .push .ensures) room in
     let longer : length more ≡ length held + 1 = ap length pushed ∙ length-push held node in
     omega arith
 
@@ -103,7 +104,7 @@ loop-need-again g c =
     let read = c .in-Continue-read .read in
     let more = elems (c .push .last .self) in
     let room : length held < g .N = omega arith in
-    let pushed : more ≡ held ++ read .node ∷ [] = has-room (g .N) (read .node) held (c .push .result) more room (c .push .ensures) in
+    let pushed : more ≡ held ++ read .node ∷ [] = pushed-room (g .N) (read .node) held (c .push .result) more (c .push .ensures) room in
     let longer : length more ≡ length held + 1 = ap length pushed ∙ length-push held (read .node) in
     let told : readNumber input at ≡ Ok first = sym (c .read .ensures .value) ∙ c .in-Continue-value .was tt in
     let node : nodeAt seen input at (first .0) (first .1) ≡ Ok read = sym (c .read-node .ensures) ∙ c .in-Continue-read .was tt in

@@ -11,7 +11,7 @@ use Rattle.word.specs.Packed.{packedNode, packed, seenAfter, Writable}
 use Rattle.word.proofs.Laws.{packed-none, packed-more}
 use Rattle.word.proofs.Puts.{length-more, puts-join}
 use Rattle.word.proofs.Back.{reads-packed}
-use Rattle.word.proofs.Turns.{ok-same}
+use Rattle.number.proofs.Answers.{ok-same}
 use Rattle.word.proofs.writing.write_nodes.Needs as need
 
 pub write-node-requires : need.write-node-requires

@@ -1,6 +1,5 @@
 use mathlib.Core.List.{List}
-use mathlib.Core.Path.{_≡_, sym, ap, _∙_, subst}
-use Prim.Native.Nat.{ℕ}
+use mathlib.Core.Path.{sym, _∙_, subst}
 use native.Mathlib.Omega.{arith}
 use Rattle.bounded.specs.Elems.{elems}
 use Rattle.term.specs.declared.node.Node.{Node}

@@ -1,10 +1,10 @@
-use mathlib.Core.Path.{_≡_, refl, sym, ap, _∙_, subst}
+use mathlib.Core.Path.{refl, sym, ap, subst}
 use native.Mathlib.Omega.{arith}
 use mathlib.Core.List.{[]}
 use lib.ListN.{length}
 use lib.Dec.{lit<, lit≤}
 use Rattle.bounded.specs.Elems.{elems}
-use Rattle.term.specs.Coding.{Whole, hd, decode}
+use Rattle.term.specs.Coding.{Whole}
 use Rattle.term.specs.Joins.{join}
 use Rattle.term.proofs.Codings.{meant}
 use Rattle.term.proofs.Pairings.{inside-none}
