@@ -1,0 +1,4 @@
+pub mod Reaches
+pub mod Bounds
+pub mod Takes
+pub mod Turns

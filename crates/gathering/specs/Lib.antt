@@ -1,0 +1,4 @@
+pub mod Lines
+pub mod Entries
+pub mod Gathered
+pub mod States
