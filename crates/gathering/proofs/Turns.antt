@@ -1,6 +1,6 @@
 -- A gathering, turn by turn.
-use mathlib.Core.List.{List, [], _∷_, _++_, append-assoc}
-use mathlib.Core.Path.{_≡_, refl, sym, ap, _∙_}
+use mathlib.Core.List.{List, [], _∷_, _++_}
+use mathlib.Core.Path.{_≡_, refl, ap, _∙_}
 use Prim.Native.Nat.{ℕ, zero, suc, _+_, _-_, _≤_, _<_}
 use native.Mathlib.Omega.{arith}
 use native.Mathlib.Numerals.{sub-one}
@@ -12,8 +12,9 @@ use Rattle.place.specs.Packing.{readPlace}
 use Rattle.term.specs.Words.{Word}
 use Rattle.number.specs.declared.fault.NumberFault.{NumberFault}
 use Rattle.number.specs.Faults.{told}
+use Rattle.listing.specs.Lines.{after}
 use Rattle.gathering.specs.Entries.{entryAt}
-use Rattle.gathering.specs.Gathered.{Told, after, oneEntry, gatheredFrom, Ruled}
+use Rattle.gathering.specs.Gathered.{Told, oneEntry, gatheredFrom, Ruled}
 use Rattle.gathering.specs.Lines.{badLine}
 
 -- at the end of the input
@@ -35,9 +36,6 @@ pub from-fault : (turns : ℕ) (input : List ℕ) (at : ℕ) (ms : List Word) �
 unfolding gatheredFrom
 from-fault zero input at ms h g fault e = absurd (omega arith)
 from-fault (suc turns) input at ms h g fault e = rw (lt-ltb at (length input) h, e)
-
-pub after-after : (a b : List ℕ) (t : Told) → after a (after b t) ≡ after (a ++ b) t
-after-after a b t = ap (λ (l : List ℕ). (l, t .1)) (sym (append-assoc a b (t .0)))
 
 -- the rule after the lines
 pub ruled-after : (text : List ℕ) (ms : List Word) (last out : List ℕ) → Ruled ([], ms) last → out ≡ text ++ last → Ruled (text, ms) out

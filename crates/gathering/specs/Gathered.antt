@@ -10,6 +10,7 @@ use Rattle.std.specs.Holes.{between}
 use Rattle.std.specs.declared.result.Result.{Result}
 use Rattle.std.specs.declared.result.Result.the-variants.{Ok, Err}
 use Rattle.class.specs.Kinds.{Least}
+use Rattle.listing.specs.Lines.{after}
 use Rattle.listing.specs.Shown.{shown}
 use Rattle.number.specs.Faults as numbers
 use Rattle.number.specs.declared.fault.NumberFault.{NumberFault}
@@ -27,10 +28,6 @@ use Rattle.gathering.specs.Lines.{badLine, takenLine}
 -- the lines before the rule, and the words taken, the latest first
 abbrev pub Told : Type 0
 Told = List ℕ × List Word
-
--- a line before the others
-abbrev pub after : List ℕ → Told → Told
-after line told = (line ++ told .0, told .1)
 
 -- an entry whose bytes begin at `start` and are read so, where ms were taken before
 abbrev pub oneEntry : (start : ℕ) → List Word → Result (List Node) PlaceFault → Told

@@ -17,8 +17,8 @@ use Rattle.number.specs.declared.fault.NumberFault.{NumberFault}
 use Rattle.number.specs.Forms.{form}
 use Rattle.number.specs.Reads.{readNumber, Exactly}
 use Rattle.number.proofs.Exact.{exactly, again}
-use Rattle.listing.specs.Lines.{numberLine, countLine, faultLine}
-use Rattle.listing.specs.Listed.{Told, after, listedFrom, listed, lines, Ends, Faithful}
+use Rattle.listing.specs.Lines.{after, numberLine, countLine, faultLine}
+use Rattle.listing.specs.Listed.{Told, listedFrom, listed, lines, Ends, Faithful}
 use Rattle.listing.proofs.Turns.{from-end, from-more, from-fault}
 
 -- the same from a place on, after some numbers

@@ -10,8 +10,8 @@ use Rattle.std.specs.declared.result.Result.the-variants.{Ok, Err}
 use Rattle.std.proofs.shelf.Tests.{lt-ltb, le-ltb}
 use Rattle.number.specs.declared.fault.NumberFault.{NumberFault}
 use Rattle.number.specs.Reads.{readNumber}
-use Rattle.listing.specs.Lines.{numberLine, countLine, faultLine}
-use Rattle.listing.specs.Listed.{Told, after, listedFrom}
+use Rattle.listing.specs.Lines.{after, numberLine, countLine, faultLine}
+use Rattle.listing.specs.Listed.{listedFrom}
 
 -- at the end of the input
 pub from-end : (turns : ℕ) (input : List ℕ) (at count : ℕ) → length input ≤ at → listedFrom turns input at count ≡ (countLine count, None)
@@ -33,5 +33,5 @@ unfolding listedFrom
 from-fault zero input at count h g fault e = absurd (omega arith)
 from-fault (suc turns) input at count h g fault e = rw (lt-ltb at (length input) h, e)
 
-pub after-after : (a b : List ℕ) (t : Told) → after a (after b t) ≡ after (a ++ b) t
+pub after-after : {X : Type 0} (a b : List ℕ) (t : List ℕ × X) → after a (after b t) ≡ after (a ++ b) t
 after-after a b t = ap (λ (l : List ℕ). (l, t .1)) (sym (append-assoc a b (t .0)))

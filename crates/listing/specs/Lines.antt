@@ -7,6 +7,10 @@ use Rattle.number.specs.Faults.{told}
 use Rattle.number.specs.declared.fault.NumberFault.{NumberFault}
 use Rattle.number.specs.declared.fault.NumberFault.the-variants.{Missing, TooLarge, Padded}
 
+-- a line before the text of what is told
+abbrev pub after : {X : Type 0} → List ℕ → List ℕ × X → List ℕ × X
+after line told = (line ++ told .0, told .1)
+
 -- a number, by its place and its value
 unfoldable pub numberLine : (at value : ℕ) → List ℕ
 numberLine at value = codes "at " ++ (decimal at ++ (codes ": " ++ (decimal value ++ codes "\n")))

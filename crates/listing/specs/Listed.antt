@@ -13,15 +13,11 @@ use Rattle.std.specs.declared.result.Result.the-variants.{Ok, Err}
 use Rattle.number.specs.declared.fault.NumberFault.{NumberFault}
 use Rattle.number.specs.Forms.{form}
 use Rattle.number.specs.Reads.{readNumber}
-use Rattle.listing.specs.Lines.{numberLine, countLine, faultLine}
+use Rattle.listing.specs.Lines.{after, numberLine, countLine, faultLine}
 
 -- the text of a listing, and the fault that ended it, if one did
 abbrev pub Told : Type 0
 Told = List ℕ × Option NumberFault
-
--- a line before the others
-abbrev pub after : List ℕ → Told → Told
-after line told = (line ++ told .0, told .1)
 
 -- the line of a fault is the last
 abbrev pub goOn : (ℕ × ℕ → Told) → Result (ℕ × ℕ) NumberFault → Told

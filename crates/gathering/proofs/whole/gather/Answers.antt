@@ -8,9 +8,11 @@ use Rattle.std.specs.Holes.{between}
 use Rattle.std.proofs.shelf.Parts.{pushed}
 use Rattle.number.specs.Faults.{told}
 use Rattle.place.specs.Packing.{readPlace}
-use Rattle.gathering.specs.Gathered.{Told, after, oneEntry, gatheredFrom, gathered, Ruled}
+use Rattle.listing.specs.Lines.{after}
+use Rattle.listing.proofs.Turns.{after-after}
+use Rattle.gathering.specs.Gathered.{Told, oneEntry, gatheredFrom, gathered, Ruled}
 use Rattle.gathering.specs.Lines.{badLine}
-use Rattle.gathering.proofs.Turns.{from-end, from-more, from-fault, after-after, ruled-after}
+use Rattle.gathering.proofs.Turns.{from-end, from-more, from-fault, ruled-after}
 use Rattle.gathering.proofs.whole.gather.Needs as need
 
 pub loop-at-holds : need.loop-at-holds

@@ -4,7 +4,8 @@ use Prim.Native.Nat.{ℕ, _-_, _≤_}
 use lib.ListN.{length}
 use Rattle.std.specs.Of.String.{string-bytes}
 use Rattle.term.specs.Words.{Word}
-use Rattle.gathering.specs.Gathered.{after, gatheredFrom, gathered}
+use Rattle.listing.specs.Lines.{after}
+use Rattle.gathering.specs.Gathered.{gatheredFrom, gathered}
 use Rattle.gathering.specs.States.{Gathers}
 use Rattle.gathering.proofs.whole.gather.Given as given
 

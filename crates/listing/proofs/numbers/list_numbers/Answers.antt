@@ -6,8 +6,8 @@ use lib.ListN.{length}
 use Rattle.std.specs.Of.String.{string-bytes}
 use Rattle.std.specs.declared.option.Option.the-variants.{None, Some}
 use Rattle.std.proofs.shelf.Parts.{pushed}
-use Rattle.listing.specs.Lines.{numberLine, countLine, faultLine}
-use Rattle.listing.specs.Listed.{after, listedFrom, listed}
+use Rattle.listing.specs.Lines.{after, numberLine, countLine, faultLine}
+use Rattle.listing.specs.Listed.{listedFrom, listed}
 use Rattle.listing.proofs.Turns.{from-end, from-more, from-fault, after-after}
 use Rattle.listing.proofs.Truths.{faithful}
 use Rattle.listing.proofs.numbers.list_numbers.Needs as need

@@ -2,7 +2,8 @@ use mathlib.Core.Path.{_≡_}
 use Prim.Native.Nat.{ℕ, _-_, _≤_}
 use lib.ListN.{length}
 use Rattle.std.specs.Of.String.{string-bytes}
-use Rattle.listing.specs.Listed.{after, listedFrom, listed}
+use Rattle.listing.specs.Lines.{after}
+use Rattle.listing.specs.Listed.{listedFrom, listed}
 use Rattle.listing.proofs.numbers.list_numbers.Given as given
 
 -- what is still to come makes the text the whole listing
