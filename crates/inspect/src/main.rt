@@ -8,23 +8,24 @@ fn main(rt: LibcRuntime) -> Result<(), AnyError> {
 }
 
 fn run(rt: &LibcRuntime) -> Result<(), AnyError> {
-    let mut args = env::args(rt)?;
-    let _ = args.next();
-    let mode = args.next();
-    let mut input = Vec::new(rt.alloc());
-    rt.stdin().read_to_end(&mut input)?;
-    let (text, faulty) = match mode {
-        None => {
-            let listing = listing::list_numbers(rt.alloc(), input.as_slice())?;
-            (listing.text, listing.fault.is_some())
-        }
+    let mut args = env::args(rt)?.skip(1);
+    let place = match args.next() {
+        None => false,
         Some(word) => {
-            if word.as_str() != "place" {
+            if word.as_str() != "place" || args.next().is_some() {
                 return Err("usage: inspect [place] < FILE".into());
             }
-            let listing = listing::list_place(rt.alloc(), input.as_slice())?;
-            (listing.text, listing.fault.is_some())
+            true
         }
+    };
+    let mut input = Vec::new(rt.alloc());
+    rt.stdin().read_to_end(&mut input)?;
+    let (text, faulty) = if place {
+        let listing = listing::list_place(rt.alloc(), input.as_slice())?;
+        (listing.text, listing.fault.is_some())
+    } else {
+        let listing = listing::list_numbers(rt.alloc(), input.as_slice())?;
+        (listing.text, listing.fault.is_some())
     };
     rt.print(text.as_str())?;
     if faulty {
