@@ -1,4 +1,5 @@
 // A class of things of one kind: it gathers things, and holds the rule that they share.
+#![tactic(auto)]
 mod classes;
 mod kind;
 

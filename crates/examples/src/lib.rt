@@ -1,4 +1,5 @@
 // Examples of every layer: some are theorems of the definitions, in one list, and the others are run as tests.
+#![tactic(auto)]
 ghost use Rattle.examples.specs.Examples.{examples, Hold};
 
 // The list of proved examples.

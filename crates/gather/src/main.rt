@@ -1,4 +1,5 @@
 // Reads place words from standard input, gathers them, and prints what happened and the rule.
+#![tactic(auto)]
 use anyhow::anyhow;
 use std::env;
 use std::io::Read;

@@ -1,4 +1,5 @@
 // What the programs print, as values.
+#![tactic(auto)]
 mod numbers;
 mod places;
 mod words;

@@ -1,4 +1,6 @@
 // The packed number: 0 to 65,535 in one to three bytes, seven bits a byte, the lowest group first.
+#![tactic(auto)]
+
 mod fault;
 mod length;
 mod reading;

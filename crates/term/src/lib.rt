@@ -1,4 +1,5 @@
 // Words as nodes in preorder, and what can be done with them: walk, compare, match, join.
+#![tactic(auto)]
 mod join;
 mod matching;
 mod node;

@@ -1,4 +1,5 @@
 // The packed form of words: reader and writer of lists of nodes.
+#![tactic(auto)]
 mod fault;
 mod reading;
 mod writing;
