@@ -7,7 +7,7 @@ mod ops;
 #[derive(Clone, Copy, PartialEq, Debug)]
 pub struct Full;
 
-#[derive(Clone, Copy)]
+#[derive(Copy)]
 pub struct Bounded<T: Copy, const N: usize> {
     items: [T; N],
     len: usize,

@@ -1,9 +1,10 @@
 // What can be done with a bounded list. Contracts speak of `elems`, the list of the elements in use.
-ghost use Rattle.std.specs.Prelude.{◌≡◌, ◌≤◌, [], length, take, nat_lt, slice_set};
+ghost use Rattle.std.specs.Prelude.{◌≡◌, ◌≤◌, ⊤, [], length, take, nat_lt, slice_set};
 ghost use Rattle.std.specs.List.{slice_get};
 ghost use Rattle.bounded.specs.Elems.{elems, Pushed};
 
 use super::{Bounded, Full};
+use std::alloc::AllocError;
 
 impl<T: Copy, const N: usize> Bounded<T, N> {
     // The empty list; `filler` stands in the places that are not in use.
@@ -74,5 +75,15 @@ impl<T: Copy, const N: usize> Bounded<T, N> {
         if n < self.len {
             self.len = n;
         }
+    }
+}
+
+impl<T: Copy, const N: usize> Clone for Bounded<T, N> {
+    ghost is_clone = { λ x y. y ≡ x };
+
+    ghost is_infallible = { λ _. ⊤ };
+
+    fn clone(&self) -> Result<Bounded<T, N>, AllocError> {
+        Ok(*self)
     }
 }
