@@ -1,3 +1,5 @@
+pub mod Nodes
+pub mod Sameness
 pub mod Lawful
 pub mod Words
 pub mod Coding

@@ -1,7 +1,7 @@
 // One node of a word or a literal. The nodes of a word stand in preorder: a symbol, then the words in its places.
 ghost use Rattle.std.specs.Prelude.{◌≡◌, Decides};
-ghost use Rattle.std.specs.Cmp.Rules.{comparing};
-ghost use Rattle.std.proofs.Common.{rules};
+ghost use Rattle.term.specs.Nodes.{same_symbol, same_node};
+ghost use Rattle.term.specs.Sameness.{same_symbol-laws, same_node-laws};
 
 // What a node's places belong to: a function symbol, or a predicate with its sign. A literal is a word whose first
 // symbol is a predicate.
@@ -20,11 +20,14 @@ pub enum Node {
 }
 
 impl PartialEq for Symbol {
-    ghost equals = { λ a b r. Decides r (a ≡ b) };
+    ghost eq = { same_symbol };
 
-    ghost laws = { Prim.search (comparing, rules) };
+    ghost laws = { same_symbol-laws };
 
-    fn eq(&self, other: &Symbol) -> bool {
+    fn eq(&self, other: &Symbol) -> bool
+        ensures value { result ≡ same_symbol self.now other.now }
+        ensures decides { Decides result (self.now ≡ other.now) }
+    {
         match (*self, *other) {
             (Symbol::Function(f), Symbol::Function(g)) => f == g,
             (Symbol::Positive(p), Symbol::Positive(q)) => p == q,
@@ -35,11 +38,14 @@ impl PartialEq for Symbol {
 }
 
 impl PartialEq for Node {
-    ghost equals = { λ a b r. Decides r (a ≡ b) };
+    ghost eq = { same_node };
 
-    ghost laws = { Prim.search (comparing, rules) };
+    ghost laws = { same_node-laws };
 
-    fn eq(&self, other: &Node) -> bool {
+    fn eq(&self, other: &Node) -> bool
+        ensures value { result ≡ same_node self.now other.now }
+        ensures decides { Decides result (self.now ≡ other.now) }
+    {
         match (*self, *other) {
             (Node::Variable(x), Node::Variable(y)) => x == y,
             (Node::Applied(s, k), Node::Applied(t, l)) => s == t && k == l,

@@ -10,12 +10,12 @@ use Rattle.term.proofs.join.+join_word.Goals as goal
 
 pub returns-then-not-fellows : goal.returns-then-not-fellows
 returns-then-not-fellows g t c =
-    let new = pushed_room g.row.N (Variable c.variable-of-x.result) (elems c.args.out.now) c.push.result (elems c.push.new.self) c.push.ensures (omega (arith, c.requires.left.1)) in
+    let new = pushed_room g.row.N (Variable c.variable_of-x.result) (elems c.args.out.now) c.push.result (elems c.push.new.self) c.push.ensures (omega (arith, c.requires.left.1)) in
     stands c.args.a.now c.args.b.now c.args.i c.args.j (Variable 0) c.requires.left.1 c.requires.right.1 c.requires.left.0 c.requires.right.0
-    c.next-word.result c.next-word-then-not-fellows.result c.variable-of-x.result (elems c.args.out.now) (elems c.push.new.self) (elems c.args.pairs.now) (elems c.variable-of-x.new.pairs)
+    c.next_word.result c.next_word-then-not-fellows.result c.variable_of-x.result (elems c.args.out.now) (elems c.push.new.self) (elems c.args.pairs.now) (elems c.variable_of-x.new.pairs)
     (λ h. both_ways _ c.if-not-fellows.true (c.fellows.ensures.1 h))
-    c.next-word.ensures c.next-word-then-not-fellows.ensures c.variable-of-x.ensures.number c.variable-of-x.ensures.table c.variable-of-x.ensures.known
-    c.variable-of-x.ensures.size new
+    c.next_word.ensures c.next_word-then-not-fellows.ensures c.variable_of-x.ensures.number c.variable_of-x.ensures.table c.variable_of-x.ensures.known
+    c.variable_of-x.ensures.size new
 
 pub loop-n-init : goal.loop-n-init
 loop-n-init g t c =
@@ -23,8 +23,8 @@ loop-n-init g t c =
     c.places-count.result (c.places-count.result - 0) (elems c.push-2.new.self) (elems c.args.pairs.now)
     (c.fellows.ensures.0 c.if-not-fellows.false) c.places-count.ensures.value (omega arith) c.requires.known
 
-pub join-word-next-p-requires : goal.join-word-next-p-requires
-join-word-next-p-requires g t c =
+pub join_word-next_p-requires : goal.join_word-next_p-requires
+join_word-next_p-requires g t c =
     let go = c.loop-n.invariant in
     let new = pushed_room g.row.N (get_or c.args.a.now c.args.i (Variable 0)) (elems c.args.out.now) c.push-2.result (elems c.push-2.new.self) c.push-2.ensures (omega (arith, c.requires.left.1)) in
     let long : length (elems c.push-2.new.self) ≡ length (elems c.args.out.now) + 1 = ap length new ∙ length_push _ _ in
@@ -37,7 +37,7 @@ join-word-next-p-requires g t c =
     search rules
 
 pub loop-n-preserved : goal.loop-n-preserved
-loop-n-preserved g t c = going_on c.args.a.now c.args.b.now _ (c.places-count.result - c.loop-n.n) _ _ _ _ _ _ _ _ _ _ _ _ _ (omega arith) (omega arith) c.loop-n.invariant c.join-word-next-p.ensures
+loop-n-preserved g t c = going_on c.args.a.now c.args.b.now _ (c.places-count.result - c.loop-n.n) _ _ _ _ _ _ _ _ _ _ _ _ _ (omega arith) (omega arith) c.loop-n.invariant c.join_word-next_p.ensures
 
 pub returns : goal.returns
 returns g t c =

@@ -21,30 +21,30 @@ returns-then-not-bind t c =
 pub returns-in-Variable : goal.returns-in-Variable
 returns-in-Variable t c =
     match-variable c.args.pattern.now c.args.target.now c.args.i c.args.j (Variable 0) c.requires.left.1 c.requires.right.1 c.requires.left.0 c.requires.right.0
-    c.in-Variable.x c.next-word.result c.args.bound.now c.bind.new.bound c.in-Variable.is c.next-word.ensures c.if-not-bind.ensures
+    c.in-Variable.x c.next_word.result c.args.bound.now c.bind.new.bound c.in-Variable.is c.next_word.ensures c.if-not-bind.ensures
 
 pub returns-then-not-fellows : goal.returns-then-not-fellows
 returns-then-not-fellows t c =
     match-never c.args.pattern.now c.args.target.now c.args.i c.args.j (Variable 0) c.requires.left.1 c.requires.right.1 c.requires.left.0 c.requires.right.0
-    c.args.bound.now c.args.bound.now c.in-default.not-Variable (λ h. both_ways _ c.if-not-fellows.true (c.fellows.ensures.1 h))
+    c.args.bound.now c.args.bound.now c.in_default.not-Variable (λ h. both_ways _ c.if-not-fellows.true (c.fellows.ensures.1 h))
 
 pub loop-n-init : goal.loop-n-init
 loop-n-init t c =
     going-first c.args.pattern.now c.args.target.now c.args.i c.args.j (Variable 0) c.requires.left.1 c.requires.right.1 c.requires.left.0 c.requires.right.0
     (c.fellows.ensures.0 c.if-not-fellows.false) c.places-count.result c.places-count.ensures.value (c.places-count.result - 0) c.args.bound.now (omega arith) c.requires.placed
 
-pub match-word-requires : goal.match-word-requires
-match-word-requires t c =
+pub match_word-requires : goal.match_word-requires
+match_word-requires t c =
     let go = c.loop-n.invariant in
     let h = walked-in c.args.pattern.now c.places-count.result (c.places-count.result - c.loop-n.n) c.loop-n.p (c.args.i + 1) (omega arith) go.left in
     let k = walked-in c.args.target.now c.places-count.result (c.places-count.result - c.loop-n.n) c.loop-n.q (c.args.j + 1) (omega arith) go.right in
     let later = go.left.from in
     (omega arith, ((c.requires.left.0, h), ((c.requires.right.0, k), (subst (λ (n : ℕ). Below n c.args.pattern.now) (sym c.loop-n.auto.bound) c.requires.below, go.placed))))
 
-pub returns-in-default-match-word : goal.returns-in-default-match-word
-returns-in-default-match-word t c =
+pub returns-in_default-match_word : goal.returns-in_default-match_word
+returns-in_default-match_word t c =
     going-stops c.args.pattern.now c.args.target.now c.args.i c.args.j (Variable 0) c.requires.left.1 c.requires.right.1 c.requires.left.0 c.requires.right.0
-    (c.fellows.ensures.0 c.if-not-fellows.false) c.places-count.result c.places-count.ensures.value (c.places-count.result - c.loop-n.n) c.loop-n.p c.loop-n.q c.args.bound.now c.loop-n.bound c.match-word.new.bound (omega arith) c.loop-n.invariant c.in-default-match-word.ensures
+    (c.fellows.ensures.0 c.if-not-fellows.false) c.places-count.result c.places-count.ensures.value (c.places-count.result - c.loop-n.n) c.loop-n.p c.loop-n.q c.args.bound.now c.loop-n.bound c.match_word.new.bound (omega arith) c.loop-n.invariant c.in_default-match_word.ensures
 
 pub loop-n-preserved : goal.loop-n-preserved
 loop-n-preserved t c =

@@ -3,8 +3,8 @@ use Rattle.term.proofs.Matchings.{Going}
 use Rattle.term.proofs.matching.+match_word.Given as goal
 
 -- the nodes left fall
-abbrev pub decreases-match-word : goal.decreases-match-word
-decreases-match-word l = length l.pattern.now - l.i
+abbrev pub decreases-match_word : goal.decreases-match_word
+decreases-match_word l = length l.pattern.now - l.i
 
 abbrev pub invariant-loop-n : goal.invariant-loop-n
 invariant-loop-n l =

@@ -10,8 +10,8 @@ loop-need-init c = (omega arith, omega arith, len-at c.args.nodes.now c.args.i c
 pub bounds-nodes-at : goal.bounds-nodes-at
 bounds-nodes-at c = words-in c.args.nodes.now c.loop-need.at c.loop-need.need (omega arith) c.loop-need.invariant.2
 
-pub overflow-add-need : goal.overflow-add-need
-overflow-add-need c =
+pub overflow_add-need : goal.overflow_add-need
+overflow_add-need c =
     let s = on c.args.nodes.now c.loop-need.at c.loop-need.need (Variable 0) c.requires.whole (omega arith) c.loop-need.invariant.2 in
     omega (arith, s.enough, len-rest c.args.nodes.now (c.loop-need.at + 1))
 
