@@ -23,8 +23,8 @@ pub struct Issued<K> {
 impl<K: Kind> Class<K> {
     // Takes the first thing. Whatever calls follow, the law holds of them.
     pub fn begin(thing: K) -> Class<K>
-        ensures begun { Begun kind thing result }
-        ensures law { Law kind thing result }
+        ensures begun { Begun K.kind thing result }
+        ensures law { Law K.kind thing result }
     {
         let mut rule = thing;
         rule.tidy();
@@ -33,7 +33,7 @@ impl<K: Kind> Class<K> {
 
     // Takes one thing more, or rejects it and stays as it was.
     pub fn admit(&mut self, thing: &K) -> Result<(), Refusal>
-        ensures { Admitted kind self.old thing.now result self.new }
+        ensures { Admitted K.kind self.old thing.now result self.new }
     {
         if !self.rule.covers(thing) {
             self.rule.join(thing)?;
@@ -44,7 +44,7 @@ impl<K: Kind> Class<K> {
 
     // Whether the rule covers a mount.
     pub fn fits(&self, mount: &K) -> bool
-        ensures { Decides result (Covers kind self.now.rule mount.now) }
+        ensures { Decides result (Covers K.kind self.now.rule mount.now) }
     {
         self.rule.covers(mount)
     }
@@ -61,7 +61,7 @@ impl<K: Kind> Class<K> {
 impl<K: Kind> Issued<K> {
     // Whether the rule covers a mount.
     pub fn fits(&self, mount: &K) -> bool
-        ensures { Decides result (Covers kind self.now.rule mount.now) }
+        ensures { Decides result (Covers K.kind self.now.rule mount.now) }
     {
         self.rule().covers(mount)
     }

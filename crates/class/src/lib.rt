@@ -1,5 +1,6 @@
 // A class of things of one kind: it gathers things, and holds the rule that they share.
 #![tactic(auto)]
+
 mod classes;
 mod kind;
 
