@@ -1,5 +1,5 @@
 -- The tests of symbols and of nodes decide whether two are the same.
-use Rattle.std.proofs.Common.{◌≡◌, ℕ, Bool, true, false, ◌==◌, ◌&&◌, Decides, refl, sym, ap, ◌∙◌}
+use Rattle.std.proofs.Common.{◌≡◌, Bool, true, false, ◌==◌, ◌&&◌, Decides, refl, sym, ap, ◌∙◌}
 use Rattle.std.proofs.lemmas.Bool.{false≢true}
 use Rattle.std.proofs.lemmas.Bool.Decides.{Decides-eqb}
 use Rattle.std.specs.Cmp.{IsPartialEquivalence}
@@ -36,10 +36,9 @@ same_node-Decides (Variable x) (Applied t l) = never (λ e. cc)
 same_node-Decides (Applied s k) (Variable y) = never (λ e. cc)
 same_node-Decides (Applied s k) (Applied t l) =
     let d = same_symbol-Decides s t in
-    let n = Decides-eqb k l in
-    (
-        λ e. let h = both (same_symbol s t) (k == l) e in let p : s ≡ t = d.0 h.0 in let q : k ≡ l = n.0 h.1 in cc,
-        λ e. both_from (same_symbol s t) (k == l) (d.1 (cc)) (n.1 (cc)),
+    let n = Decides-eqb k l in (
+      λ e. let h = both (same_symbol s t) (k == l) e in let p : s ≡ t = d.0 h.0 in let q : k ≡ l = n.0 h.1 in cc,
+      λ e. both_from (same_symbol s t) (k == l) (d.1 (cc)) (n.1 (cc)),
     )
 
 -- a test that decides `≡` is symmetric and transitive

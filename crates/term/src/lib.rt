@@ -1,5 +1,6 @@
 // Words as nodes in preorder, and what can be done with them: walk, compare, match, join.
 #![tactic(auto)]
+
 mod join;
 mod matching;
 mod node;

@@ -7,7 +7,7 @@ pub returns : goal.returns
 returns c = elim c.match-admit.branch [
   | in-Ok+in-ok-line w ↦ λ ms g. (
     admits ms c.args.class c.args.place c.admit.new.self g w.in-Ok.ensures,
-    ap string_bytes w.line-is ∙ w.in-ok-line.ensures.ok ∙ sym (line-more ms c.args.class g),
+    ap string_bytes w.line-is ∙ w.in_ok-line.ensures.ok ∙ sym (line-more ms c.args.class g),
   )
   | in-Err+in-ok-line-2 w ↦ λ ms g. absurd (never-refused c.args.class c.args.place w.in-Err.refusal c.admit.new.self w.in-Err.ensures)
 ]

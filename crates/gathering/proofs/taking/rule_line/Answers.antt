@@ -5,10 +5,10 @@ use Rattle.gathering.specs.States.{Gathers}
 use Rattle.gathering.proofs.Takes.{rules, made-on}
 use Rattle.gathering.proofs.taking.rule_line.Goals as goal
 
-pub returns-in-ok-rule : goal.returns-in-ok-rule
-returns-in-ok-rule c =
-    let text : IfOk c.format-in-Some.result (λ s. string_bytes s ≡ codes "rule " ++ (c.as-str-rule.result.now ++ codes "\n")) = search rules in
-    let name = c.as-str-rule.ensures.value ∙ c.in-ok-rule.ensures in
+pub returns-in_ok-rule : goal.returns-in_ok-rule
+returns-in_ok-rule c =
+    let text : IfOk c.format-in-Some.result (λ s. string_bytes s ≡ codes "rule " ++ (c.as_str-rule.result.now ++ codes "\n")) = search rules in
+    let name = c.as_str-rule.ensures.value ∙ c.in_ok-rule.ensures in
     made-on _ _ c.format-in-Some.result text
     (λ s e ms g.
     rules ms c.in-Some.gathering c.rule.result.now (string_bytes s)

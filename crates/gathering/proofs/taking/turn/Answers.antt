@@ -15,8 +15,8 @@ use Rattle.gathering.proofs.Bounds.{PlaceBy, place-by}
 use Rattle.gathering.proofs.Takes.{made-on}
 use Rattle.gathering.proofs.taking.turn.Goals as goal
 
-pub overflow-add-start : goal.overflow-add-start
-overflow-add-start c =
+pub overflow_add-start : goal.overflow_add-start
+overflow_add-start c =
     let bytes = c.args.bytes.now in
     let is = read-refused (read_place bytes) c.new-place.result c.read.new.self c.in-Err.fault c.in-Err.ensures.value in
     let inside : (told c.in-Err.fault).1 ≤ length bytes = subst (PlaceBy bytes) is (place-by bytes) in
@@ -32,9 +32,9 @@ returns-in-Ok c =
     made-on _ _ c.take.result c.take.ensures
     (λ t goes ms g. subst (λ (o : Told). Gathers o.1 t.class × (string_bytes t.line ≡ o.0)) (one ms) (goes ms g))
 
-pub returns-in-ok-line : goal.returns-in-ok-line
-returns-in-ok-line c ms g =
+pub returns-in_ok-line : goal.returns-in_ok-line
+returns-in_ok-line c ms g =
     let bytes = c.args.bytes.now in
     let is = read-refused (read_place bytes) c.new-place.result c.read.new.self c.in-Err.fault c.in-Err.ensures.value in
-    subst (λ (r : Result (List Node) PlaceFault). Gathers (one_entry c.args.start ms r).1 c.args.class × (string_bytes c.in-ok-line.line ≡ (one_entry c.args.start ms r).0)) (sym is)
-    (g, c.in-ok-line.ensures ∙ (λ i. bad_line (c.question.ensures i) (c.args.start + c.byte.ensures i)))
+    subst (λ (r : Result (List Node) PlaceFault). Gathers (one_entry c.args.start ms r).1 c.args.class × (string_bytes c.in_ok-line.line ≡ (one_entry c.args.start ms r).0)) (sym is)
+    (g, c.in_ok-line.ensures ∙ (λ i. bad_line (c.question.ensures i) (c.args.start + c.byte.ensures i)))

@@ -25,9 +25,9 @@ loop-at-preserved-in-Ok c =
     let turns = inv.1.2.0 in
     let entry = c.in-Ok.ensures in
     let one : Told = one_entry c.in-Ok.start ms (read_place (between c.in-Ok.start c.in-Ok.end input)) in
-    let goes = c.in-ok-done.ensures ms inv.1.1 in
-    let line : c.as-str.result.now ≡ one.0 = c.as-str.ensures.value ∙ goes.1 in
-    let text = pushed c.as-str.result.now refl c.in-ok-push-str.was c.push-str.ensures.bytes in
+    let goes = c.in_ok-done.ensures ms inv.1.1 in
+    let line : c.as_str.result.now ≡ one.0 = c.as_str.ensures.value ∙ goes.1 in
+    let text = pushed c.as_str.result.now refl c.in_ok-push_str.was c.push_str.ensures.bytes in
     let next = gathered_from (turns - 1) input c.in-Ok.end one.1 in (
       entry.inside.2,
       (
@@ -48,13 +48,13 @@ pub loop-at-preserved : goal.loop-at-preserved
 loop-at-preserved c =
     let input = c.args.input.now in
     let old = string_bytes c.loop-at.text in
-    let new = string_bytes c.push-str-in-Err.new.self in
+    let new = string_bytes c.push_str-in-Err.new.self in
     let inv = c.loop-at.invariant in
     let ms = inv.1.0 in
     let turns = inv.1.2.0 in
-    let line : c.as-str-in-Err.result.now ≡ bad_line (told c.in-Err.fault).0 (told c.in-Err.fault).1 =
-    c.as-str-in-Err.ensures.value ∙ c.in-ok-bad-line.ensures ∙ ap₂ bad_line c.question.ensures c.byte.ensures in
-    let text = pushed c.as-str-in-Err.result.now refl c.in-ok-push-str-2.was c.push-str-in-Err.ensures.bytes in (
+    let line : c.as_str-in-Err.result.now ≡ bad_line (told c.in-Err.fault).0 (told c.in-Err.fault).1 =
+    c.as_str-in-Err.ensures.value ∙ c.in_ok-bad_line.ensures ∙ ap₂ bad_line c.question.ensures c.byte.ensures in
+    let text = pushed c.as_str-in-Err.result.now refl c.in_ok-push_str-2.was c.push_str-in-Err.ensures.bytes in (
       omega arith,
       (
         ms,
@@ -74,12 +74,12 @@ pub returns : goal.returns
 returns c =
     let input = c.args.input.now in
     let old = string_bytes c.loop-at.text in
-    let out = string_bytes c.push-str-2.new.self in
+    let out = string_bytes c.push_str-2.new.self in
     let inv = c.loop-at.invariant in
     let ms = inv.1.0 in
     let turns = inv.1.2.0 in
-    let last = string_bytes c.in-ok-rule-line.field-0 in
-    let text = pushed c.as-str-2.result.now refl c.in-ok-push-str-3.was c.push-str-2.ensures.bytes in
+    let last = string_bytes c.in_ok-rule_line.field-0 in
+    let text = pushed c.as_str-2.result.now refl c.in_ok-push_str-3.was c.push_str-2.ensures.bytes in
     let all : (old, ms) ≡ gathered input =
     ap (λ (l : List ℕ). (l, ms)) (sym (append-nil old)) ∙ ap (after old) (sym (from_end turns input c.loop-at.at ms c.loop-at-test.false)) ∙ inv.1.2.2 in
-    subst (λ (t : Told). Ruled t out) all (ruled-after old ms last out (c.in-ok-rule-line.ensures ms inv.1.1) (text ∙ ap (λ (l : List ℕ). old ++ l) c.as-str-2.ensures.value))
+    subst (λ (t : Told). Ruled t out) all (ruled-after old ms last out (c.in_ok-rule_line.ensures ms inv.1.1) (text ∙ ap (λ (l : List ℕ). old ++ l) c.as_str-2.ensures.value))

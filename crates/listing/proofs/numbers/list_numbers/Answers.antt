@@ -18,8 +18,8 @@ loop-at-preserved c =
     let old = string_bytes c.loop-at.text in
     let inv = c.loop-at.invariant in
     let read = c.in-Ok.ensures in
-    let line : c.as-str.result.now ≡ number_line c.loop-at.at c.in-Ok.value = c.as-str.ensures.value ∙ c.in-ok-number-line.ensures in
-    let text = pushed c.as-str.result.now refl c.in-ok-push-str.was c.push-str.ensures.bytes in
+    let line : c.as_str.result.now ≡ number_line c.loop-at.at c.in-Ok.value = c.as_str.ensures.value ∙ c.in_ok-number_line.ensures in
+    let text = pushed c.as_str.result.now refl c.in_ok-push_str.was c.push_str.ensures.bytes in
     let next = listed_from (inv.2.0 - 1) input c.in-Ok.next (c.loop-at.count + 1) in (
       read.exact.1,
       omega (arith, read.exact.0),
@@ -38,22 +38,22 @@ returns-in-Err c =
     let input = c.args.input.now in
     let old = string_bytes c.loop-at.text in
     let inv = c.loop-at.invariant in
-    let line : c.as-str-in-Err.result.now ≡ fault_line c.in-Err.fault = c.as-str-in-Err.ensures.value ∙ c.in-ok-fault-line.ensures in
-    let text = pushed c.as-str-in-Err.result.now refl c.in-ok-push-str-2.was c.push-str-in-Err.ensures.bytes in
+    let line : c.as_str-in-Err.result.now ≡ fault_line c.in-Err.fault = c.as_str-in-Err.ensures.value ∙ c.in_ok-fault_line.ensures in
+    let text = pushed c.as_str-in-Err.result.now refl c.in_ok-push_str-2.was c.push_str-in-Err.ensures.bytes in
     let value =
     ap (λ (l : List ℕ). (l, Some c.in-Err.fault)) (text ∙ ap (λ (l : List ℕ). old ++ l) line)
     ∙ ap (after old) (sym (from-fault inv.2.0 input c.loop-at.at c.loop-at.count (omega arith) inv.2.1 c.in-Err.fault (sym c.in-Err.ensures.value)))
     ∙ inv.2.2 in
-    record { value = value; faithful = faithful c.args.input.now (λ i. (c.type-inv.input i).fits) _ value }
+    record { value = value; faithful = faithful c.args.input.now (λ i. (c.type_inv.input i).fits) _ value }
 
 pub returns : goal.returns
 returns c =
     let old = string_bytes c.loop-at.text in
     let inv = c.loop-at.invariant in
-    let line : c.as-str-2.result.now ≡ count_line c.loop-at.count = c.as-str-2.ensures.value ∙ c.in-ok-count-line.ensures in
-    let text = pushed c.as-str-2.result.now refl c.in-ok-push-str-3.was c.push-str-2.ensures.bytes in
+    let line : c.as_str-2.result.now ≡ count_line c.loop-at.count = c.as_str-2.ensures.value ∙ c.in_ok-count_line.ensures in
+    let text = pushed c.as_str-2.result.now refl c.in_ok-push_str-3.was c.push_str-2.ensures.bytes in
     let value =
     ap (λ (l : List ℕ). (l, None)) (text ∙ ap (λ (l : List ℕ). old ++ l) line)
     ∙ ap (after old) (sym (from_end inv.2.0 c.args.input.now c.loop-at.at c.loop-at.count (omega arith)))
     ∙ inv.2.2 in
-    record { value = value; faithful = faithful c.args.input.now (λ i. (c.type-inv.input i).fits) _ value }
+    record { value = value; faithful = faithful c.args.input.now (λ i. (c.type_inv.input i).fits) _ value }

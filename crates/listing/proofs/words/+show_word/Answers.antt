@@ -8,10 +8,10 @@ use Rattle.listing.proofs.words.+show_word.Goals as goal
 
 pub loop-n-init : goal.loop-n-init
 loop-n-init t c =
-    going-first c.args.nodes.now c.args.i (Variable 0) c.requires.1 c.requires.0 c.places-count.result c.places-count.ensures.value (string_bytes c.push-str.new.self)
+    going-first c.args.nodes.now c.args.i (Variable 0) c.requires.1 c.requires.0 c.places-count.result c.places-count.ensures.value (string_bytes c.push_str.new.self)
 
-pub show-word-requires : goal.show-word-requires
-show-word-requires t c =
+pub show_word-requires : goal.show_word-requires
+show_word-requires t c =
     let walked = c.loop-n.invariant.walked in
     let later = walked.from in
     (omega (arith, c.requires.1), (c.requires.0, walked-in c.args.nodes.now c.places-count.result (c.places-count.result - c.loop-n.n) c.loop-n.at (c.args.i + 1) (omega arith) walked))
@@ -19,19 +19,19 @@ show-word-requires t c =
 pub loop-n-preserved : goal.loop-n-preserved
 loop-n-preserved t c =
     let old = string_bytes c.loop-n.text in
-    let opened : string_bytes c.push-str-in-loop-n.new.self ≡ old ++ opening c.loop-n.n =
-    pushed c.opening.result.now refl c.in-ok-push-str-2.was c.push-str-in-loop-n.ensures.bytes ∙ ap (λ (l : List ℕ). old ++ l) c.opening.ensures in
-    let word = c.in-ok-at.ensures in
-    going_on c.args.nodes.now c.places-count.result c.loop-n.n c.loop-n.at c.in-ok-at.at (c.args.i + 1) old (string_bytes c.push-str-in-loop-n.new.self) (string_bytes c.show-word.new.text) (string_bytes c.push-str.new.self)
+    let opened : string_bytes c.push_str-in-loop-n.new.self ≡ old ++ opening c.loop-n.n =
+    pushed c.opening.result.now refl c.in_ok-push_str-2.was c.push_str-in-loop-n.ensures.bytes ∙ ap (λ (l : List ℕ). old ++ l) c.opening.ensures in
+    let word = c.in_ok-at.ensures in
+    going_on c.args.nodes.now c.places-count.result c.loop-n.n c.loop-n.at c.in_ok-at.at (c.args.i + 1) old (string_bytes c.push_str-in-loop-n.new.self) (string_bytes c.show_word.new.text) (string_bytes c.push_str.new.self)
     c.loop-n-test.true c.loop-n.invariant word.0 opened word.1
 
 pub returns : goal.returns
 returns t c =
     let old = string_bytes c.args.text.now in
-    let named : string_bytes c.push-str.new.self ≡ old ++ node_name (get_or c.args.nodes.now c.args.i (Variable 0)) =
-    pushed c.as-str.result.now refl c.in-ok-push-str.was c.push-str.ensures.bytes ∙ ap (λ (l : List ℕ). old ++ l) (c.as-str.ensures.value ∙ c.in-ok-node-name.ensures) in
+    let named : string_bytes c.push_str.new.self ≡ old ++ node_name (get_or c.args.nodes.now c.args.i (Variable 0)) =
+    pushed c.as_str.result.now refl c.in_ok-push_str.was c.push_str.ensures.bytes ∙ ap (λ (l : List ℕ). old ++ l) (c.as_str.ensures.value ∙ c.in_ok-node_name.ensures) in
     let text = string_bytes c.loop-n.text in
-    let closed : string_bytes c.push-str-2.new.self ≡ text ++ closing c.places-count.result =
-    pushed c.closing.result.now refl c.in-ok-push-str-3.was c.push-str-2.ensures.bytes ∙ ap (λ (l : List ℕ). text ++ l) c.closing.ensures in
-    going-last c.args.nodes.now c.args.i (Variable 0) c.requires.1 c.requires.0 c.places-count.result c.places-count.ensures.value c.loop-n.n c.loop-n.at old (string_bytes c.push-str.new.self) text (string_bytes c.push-str-2.new.self)
+    let closed : string_bytes c.push_str-2.new.self ≡ text ++ closing c.places-count.result =
+    pushed c.closing.result.now refl c.in_ok-push_str-3.was c.push_str-2.ensures.bytes ∙ ap (λ (l : List ℕ). text ++ l) c.closing.ensures in
+    going-last c.args.nodes.now c.args.i (Variable 0) c.requires.1 c.requires.0 c.places-count.result c.places-count.ensures.value c.loop-n.n c.loop-n.at old (string_bytes c.push_str.new.self) text (string_bytes c.push_str-2.new.self)
     c.loop-n-test.false (omega arith) c.loop-n.invariant named closed

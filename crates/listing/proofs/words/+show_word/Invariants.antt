@@ -3,8 +3,8 @@ use Rattle.listing.proofs.Showing.{Going}
 use Rattle.listing.proofs.words.+show_word.Given as goal
 
 -- the nodes left fall
-abbrev pub decreases-show-word : goal.decreases-show-word
-decreases-show-word l = length l.nodes.now - l.i
+abbrev pub decreases-show_word : goal.decreases-show_word
+decreases-show_word l = length l.nodes.now - l.i
 
 abbrev pub invariant-loop-n : goal.invariant-loop-n
 invariant-loop-n l = Going l.nodes l.count l.n l.at l.initial.at (string_bytes l.text) (string_bytes l.initial.text)

@@ -6,8 +6,8 @@ use Rattle.place.specs.Held.{held}
 use Rattle.listing.specs.Shown.{shown}
 use Rattle.listing.proofs.words.show_place.Goals as goal
 
-pub show-word-requires : goal.show-word-requires
-show-word-requires c =
+pub show_word-requires : goal.show_word-requires
+show_word-requires c =
     let p = c.args.place.now in
     let e = c.nodes.ensures ∙ (held p).nodes-of in
     (subst Whole (sym e) (held p).whole, omega (arith, ap length e, (held p).some))
@@ -15,5 +15,5 @@ show-word-requires c =
 pub returns : goal.returns
 returns c =
     let p = c.args.place.now in
-    let word = c.in-ok-show-word.ensures in
+    let word = c.in_ok-show_word.ensures in
     word.1 ∙ ap (λ (l : List ℕ). l ++ shown (word_at c.nodes.result.now 0)) c.new-text.ensures.bytes ∙ ap shown (meant (meaning p) c.nodes.result.now c.nodes.ensures)

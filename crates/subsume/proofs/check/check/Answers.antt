@@ -3,8 +3,8 @@ use Rattle.std.proofs.lemmas.List.{length-replicate}
 use Rattle.term.specs.Matched.{Below, Bindings}
 use Rattle.subsume.proofs.check.check.Goals as goal
 
-pub check-each-requires : goal.check-each-requires
-check-each-requires g c =
+pub check_each-requires : goal.check_each-requires
+check_each-requires g c =
     let long = sym (length-replicate g.row.V None) in
     record {
       left = c.requires.left;

@@ -11,8 +11,8 @@ loop-i-init c =
     subst (λ (m : Bindings). Bound c.args.a.nodes.now c.args.a.starts.now c.args.b.nodes.now c.args.b.starts.now f 0 m) (sym c.requires.none)
     (bound-none c.args.a.nodes.now c.args.a.starts.now c.args.b.nodes.now c.args.b.starts.now f (length c.args.bound.now))
 
-pub match-word-requires : goal.match-word-requires
-match-word-requires c =
+pub match_word-requires : goal.match_word-requires
+match_word-requires c =
     let a = c.args.a in
     let b = c.args.b in
     let i = c.loop-i.i in
@@ -24,15 +24,15 @@ match-word-requires c =
       placed = c.loop-i.invariant.placed;
     }
 
-pub returns-in-default : goal.returns-in-default
-returns-in-default c = (
+pub returns-in_default : goal.returns-in_default
+returns-in_default c = (
   λ e. absurd (false≢true e),
-  λ w. absurd (bound-never c.args.a.nodes.now c.args.a.starts.now c.args.b.nodes.now c.args.b.starts.now (λ (k : ℕ). get_or c.args.picks.now k 0) c.loop-i.i c.loop-i.bound c.match-word.new.bound c.loop-i.invariant c.loop-i-test.true c.in-default.ensures w),
+  λ w. absurd (bound-never c.args.a.nodes.now c.args.a.starts.now c.args.b.nodes.now c.args.b.starts.now (λ (k : ℕ). get_or c.args.picks.now k 0) c.loop-i.i c.loop-i.bound c.match_word.new.bound c.loop-i.invariant c.loop-i-test.true c.in_default.ensures w),
 )
 
 pub loop-i-preserved : goal.loop-i-preserved
 loop-i-preserved c =
-    bound-more c.args.a.nodes.now c.args.a.starts.now c.args.b.nodes.now c.args.b.starts.now (λ (k : ℕ). get_or c.args.picks.now k 0) c.loop-i.i c.loop-i.bound c.match-word.new.bound c.loop-i.invariant _ c.in-Some.ensures
+    bound-more c.args.a.nodes.now c.args.a.starts.now c.args.b.nodes.now c.args.b.starts.now (λ (k : ℕ). get_or c.args.picks.now k 0) c.loop-i.i c.loop-i.bound c.match_word.new.bound c.loop-i.invariant _ c.in-Some.ensures
 
 pub returns : goal.returns
 returns c =

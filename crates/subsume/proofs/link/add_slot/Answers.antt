@@ -23,10 +23,10 @@ returns-then-s g c =
     let room : length slots < g.row.K = omega arith in
     let pushed = pushed_room g.row.K slot slots c.push.result (elems c.push.new.self) c.push.ensures room in
     let is = variable-at N c.args.p c.args.x (omega (arith, inner.3, inner.1.within)) c.requires.node in
-    let more = linked-more N S M T slots labels c.args.i c.args.x c.label-row.result c.requires.linked c.requires.literal (omega (arith, c.requires.rows))
-    (λ j h θ t. c.label-row.ensures j h θ t ∙ ap (λ w. label_of (sub θ w)) is) in
+    let more = linked-more N S M T slots labels c.args.i c.args.x c.label_row.result c.requires.linked c.requires.literal (omega (arith, c.requires.rows))
+    (λ j h θ t. c.label_row.ensures j h θ t ∙ ap (λ w. label_of (sub θ w)) is) in
     record {
-      linked = subst (λ (l : List Slot). Linked N S M T l (set labels c.len-s.result c.label-row.result)) (sym pushed)
-          (subst (λ (n : ℕ). Linked N S M T (slots ++ slot ∷ []) (set labels n c.label-row.result)) (sym s) more);
-      rows = length-set labels c.len-s.result c.label-row.result ∙ c.requires.rows;
+      linked = subst (λ (l : List Slot). Linked N S M T l (set labels c.len-s.result c.label_row.result)) (sym pushed)
+          (subst (λ (n : ℕ). Linked N S M T (slots ++ slot ∷ []) (set labels n c.label_row.result)) (sym s) more);
+      rows = length-set labels c.len-s.result c.label_row.result ∙ c.requires.rows;
     }

@@ -11,8 +11,8 @@ use Rattle.subsume.proofs.link.label_row.Goals as goal
 pub loop-j-init : goal.loop-j-init
 loop-j-init g c = (λ k h. absurd (omega arith), length-replicate g.row.N 0)
 
-pub met-label-requires : goal.met-label-requires
-met-label-requires g c =
+pub met_label-requires : goal.met_label-requires
+met_label-requires g c =
     let a = c.args.a in
     let b = c.args.b in
     record {
@@ -27,12 +27,12 @@ loop-j-preserved g c =
     let b = c.args.b in
     let j = c.loop-j.j in
     let row = c.loop-j.row in
-    let new = c.met-label.result in (
+    let new = c.met_label.result in (
       λ k h θ t. ⊎_elim
           (λ (e : k ≡ j).
           ap (λ (n : ℕ). get_or (set row j new) n 0) e
           ∙ get_or-set_same row j new 0 (omega (arith, c.loop-j.invariant.1, c.requires.few.0))
-          ∙ c.met-label.ensures θ (subst (TurnsAt a.nodes.now a.starts.now b.nodes.now b.starts.now θ c.args.i) e t))
+          ∙ c.met_label.ensures θ (subst (TurnsAt a.nodes.now a.starts.now b.nodes.now b.starts.now θ c.args.i) e t))
           (λ e. get_or-set_other row j k new 0 e ∙ c.loop-j.invariant.0 k (omega (arith, e)) θ t)
           (cases_eq k j),
       length-set row j new ∙ c.loop-j.invariant.1,

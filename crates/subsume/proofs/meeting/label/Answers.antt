@@ -14,8 +14,8 @@ pub loop-at-preserved : goal.loop-at-preserved
 loop-at-preserved c =
     let nodes = c.args.nodes.now in
     let at = c.loop-at.at in
-    let end = c.next-word-end.result in
-    let within = c.next-word-end.ensures.within in
+    let end = c.next_word-end.result in
+    let within = c.next_word-end.ensures.within in
     let node = get_or nodes at (Variable 0) in
     let more = between_first nodes at end (omega arith) (omega arith) in (
       ap (λ (n : ℕ). mixed ((c.loop-at.label * 31 + n) % 4096) (between (at + 1) end nodes)) c.number.ensures.value
@@ -28,8 +28,8 @@ pub returns : goal.returns
 unfolding label_of
 returns c =
     let nodes = c.args.nodes.now in
-    let end = c.next-word-end.result in
+    let end = c.next_word-end.result in
     let none : end - c.loop-at.at ≡ 0 = omega arith in
     sym (ap (λ (n : ℕ). mixed c.loop-at.label (take n (drop c.loop-at.at nodes))) none)
     ∙ c.loop-at.invariant.0
-    ∙ ap (mixed 0) (word-between nodes c.args.i end c.requires.whole c.requires.inside c.next-word-end.ensures)
+    ∙ ap (mixed 0) (word-between nodes c.args.i end c.requires.whole c.requires.inside c.next_word-end.ensures)

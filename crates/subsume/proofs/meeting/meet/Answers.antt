@@ -16,11 +16,11 @@ beside-requires c =
     let along = c.requires.along in
     (c.requires.right.0, (inside c.args.a.now c.args.b.now c.requires.left.0 c.requires.right.0 c.args.i c.args.j c.requires.left.1 c.requires.right.1 c.loop-at.at c.loop-at.q c.loop-at.invariant along.0 along.1 (omega (arith, along.3))).1)
 
-pub returns-in-default : goal.returns-in-default
-returns-in-default c =
+pub returns-in_default : goal.returns-in_default
+returns-in_default c =
     let along = c.requires.along in
     abreast-never c.args.a.now c.args.b.now c.requires.left.0 c.requires.right.0 c.args.i c.args.j c.requires.left.1 c.requires.right.1 c.loop-at.at c.loop-at.q c.loop-at.invariant along.0 along.1 (omega (arith, along.3))
-    (get_or c.args.a.now c.loop-at.at (Variable 0)) refl c.in-default.ensures
+    (get_or c.args.a.now c.loop-at.at (Variable 0)) refl c.in_default.ensures
 
 pub loop-at-preserved : goal.loop-at-preserved
 loop-at-preserved c =

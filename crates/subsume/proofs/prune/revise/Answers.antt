@@ -8,15 +8,15 @@ use Rattle.subsume.proofs.prune.revise.Goals.{then-other-slot+then-other-slot-2+
 
 pub mark-marks-requires : goal.mark-marks-requires
 mark-marks-requires g c =
-    let same = c.as-slice-slots.ensures.value in
-    let own : (slot_at c.as-slice-slots.result.now c.args.s).literal < c.args.m = subst (λ (l : List Slot). (slot_at l c.args.s).literal < c.args.m) (sym same) (c.requires.owned c.args.s c.requires.slot) in
+    let same = c.as_slice-slots.ensures.value in
+    let own : (slot_at c.as_slice-slots.result.now c.args.s).literal < c.args.m = subst (λ (l : List Slot). (slot_at l c.args.s).literal < c.args.m) (sym same) (c.requires.owned c.args.s c.requires.slot) in
     (omega (arith, c.requires.few.1), ((omega (arith, c.requires.inside.0), omega (arith, c.requires.inside.1)), c.requires.few))
 
 pub sift-requires : goal.sift-requires
 sift-requires g c =
-    let same = c.as-slice-slots.ensures.value in
+    let same = c.as_slice-slots.ensures.value in
     let here : c.loop-t.t < length (elems c.args.table.now.slots) = omega (arith, ap length same) in
-    let own : (slot_at c.as-slice-slots.result.now c.loop-t.t).literal < c.args.m = subst (λ (l : List Slot). (slot_at l c.loop-t.t).literal < c.args.m) (sym same) (c.requires.owned c.loop-t.t here) in
+    let own : (slot_at c.as_slice-slots.result.now c.loop-t.t).literal < c.args.m = subst (λ (l : List Slot). (slot_at l c.loop-t.t).literal < c.args.m) (sym same) (c.requires.owned c.loop-t.t here) in
     (omega (arith, c.requires.few.1), ((omega (arith, c.requires.inside.0), omega (arith, c.requires.inside.1)), c.requires.few))
 
 pub loop-t-preserved : goal.loop-t-preserved
@@ -24,7 +24,7 @@ loop-t-preserved g c =
     let start = c.args.sets.now in
     let slots = elems c.args.table.now.slots in
     let labels = c.args.table.now.labels in
-    let same = c.as-slice-slots.ensures.value in
+    let same = c.as_slice-slots.ensures.value in
     let s = c.args.s in
     let t = c.loop-t.t in
     let here : t < length slots = omega (arith, ap length same) in

@@ -7,9 +7,9 @@ use Rattle.subsume.proofs.Searching.{linked-owned, tried, decided, out_none, out
 use Rattle.subsume.proofs.search.+search.Goals as goal
 use Rattle.subsume.proofs.search.+search.Goals.{then-test+else-search, else-test}
 
-pub returns-in-default : goal.returns-in-default
-returns-in-default g t c =
-    let d = decided c.args.a.nodes.now c.args.a.starts.now c.args.b.nodes.now c.args.b.starts.now c.args.sets.now c.settle.new.picks c.settle.ensures.picked.0 c.in-default.ensures c.check.result c.check.ensures in
+pub returns-in_default : goal.returns-in_default
+returns-in_default g t c =
+    let d = decided c.args.a.nodes.now c.args.a.starts.now c.args.b.nodes.now c.args.b.starts.now c.args.sets.now c.settle.new.picks c.settle.ensures.picked.0 c.in_default.ensures c.check.result c.check.ensures in
     record { found = d.0; none = d.1 }
 
 pub loop-j-init : goal.loop-j-init

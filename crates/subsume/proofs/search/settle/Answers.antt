@@ -3,7 +3,7 @@ use Rattle.std.proofs.lemmas.List.{length-set}
 use Rattle.subsume.specs.Choices.{Picked, undone}
 use Rattle.subsume.proofs.Picking.{undone-set, picked-set}
 use Rattle.subsume.proofs.search.settle.Goals as goal
-use Rattle.subsume.proofs.search.settle.Goals.{in-Some, in-default}
+use Rattle.subsume.proofs.search.settle.Goals.{in-Some, in_default}
 
 -- what lasts from turn to turn
 abbrev Kept : (sets : List ℕ) (m n N : ℕ) (first picks : List ℕ) → Type 0
@@ -25,5 +25,5 @@ loop-i-preserved g c =
             length-set old i j ∙ inv.1,
             omega (arith, inv.2, undone-set c.args.n old i j told.0),
           )
-      | in-default w ↦ subst (Kept sets c.args.m c.args.n g.row.N c.args.picks.now) (sym w.picks-is) inv
+      | in_default w ↦ subst (Kept sets c.args.m c.args.n g.row.N c.args.picks.now) (sym w.picks-is) inv
     ]

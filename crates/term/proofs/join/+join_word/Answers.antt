@@ -1,4 +1,4 @@
-use Rattle.std.proofs.Common.{◌≡◌, ◌+◌, ◌-◌, ◌≤◌, length, get_or, ap, ◌∙◌, arith, rules}
+use Rattle.std.proofs.Common.{◌≡◌, ◌+◌, ◌-◌, length, get_or, ap, ◌∙◌, arith}
 use Rattle.std.proofs.lemmas.List.{length_push}
 use Rattle.std.proofs.lemmas.Bool.{both_ways}
 use Rattle.bounded.specs.Elems.{elems}
@@ -19,29 +19,38 @@ returns-then-not-fellows g t c =
 
 pub loop-n-init : goal.loop-n-init
 loop-n-init g t c =
-    going-first c.args.a.now c.args.b.now c.args.i c.args.j (Variable 0) c.requires.left.1 c.requires.right.1 c.requires.left.0 c.requires.right.0
+    let go = going-first c.args.a.now c.args.b.now c.args.i c.args.j (Variable 0) c.requires.left.1 c.requires.right.1 c.requires.left.0 c.requires.right.0
     c.places-count.result (c.places-count.result - 0) (elems c.push-2.new.self) (elems c.args.pairs.now)
-    (c.fellows.ensures.0 c.if-not-fellows.false) c.places-count.ensures.value (omega arith) c.requires.known
-
-pub join_word-next_p-requires : goal.join_word-next_p-requires
-join_word-next_p-requires g t c =
-    let go = c.loop-n.invariant in
+    (c.fellows.ensures.0 c.if-not-fellows.false) c.places-count.ensures.value (omega arith) c.requires.known in
     let new = pushed_room g.row.N (get_or c.args.a.now c.args.i (Variable 0)) (elems c.args.out.now) c.push-2.result (elems c.push-2.new.self) c.push-2.ensures (omega (arith, c.requires.left.1)) in
     let long : length (elems c.push-2.new.self) ≡ length (elems c.args.out.now) + 1 = ap length new ∙ length_push _ _ in
-    let h = walked-in c.args.a.now c.places-count.result (c.places-count.result - c.loop-n.n) c.loop-n.p (c.args.i + 1) (omega arith) go.left in
-    let k = walked-in c.args.b.now c.places-count.result (c.places-count.result - c.loop-n.n) c.loop-n.q (c.args.j + 1) (omega arith) go.right in
-    let room : length (elems c.loop-n.out) + (length c.args.a.now - c.loop-n.p) ≤ g.row.N = omega (arith, go.room) in
-    let spare : length (elems c.loop-n.pairs) + (length c.args.a.now - c.loop-n.p) ≤ g.row.N = omega (arith, go.spare) in
-    let known = go.known in
-    let later = go.left.from in
-    search rules
+    record {
+      going = go;
+      later = omega arith;
+      left = λ h. walked-in c.args.a.now c.places-count.result (c.places-count.result - 0) (c.args.i + 1) (c.args.i + 1) (omega arith) go.left;
+      right = λ h. walked-in c.args.b.now c.places-count.result (c.places-count.result - 0) (c.args.j + 1) (c.args.j + 1) (omega arith) go.right;
+      known = c.requires.known;
+      room = omega arith;
+      spare = omega arith;
+    }
 
 pub loop-n-preserved : goal.loop-n-preserved
-loop-n-preserved g t c = going_on c.args.a.now c.args.b.now _ (c.places-count.result - c.loop-n.n) _ _ _ _ _ _ _ _ _ _ _ _ _ (omega arith) (omega arith) c.loop-n.invariant c.join_word-next_p.ensures
+loop-n-preserved g t c =
+    let go = going_on c.args.a.now c.args.b.now _ (c.places-count.result - c.loop-n.n) (c.places-count.result - (c.loop-n.n + 1)) _ _ _ _ _ _ _ _ _ _ _ _ (omega arith) (omega arith) c.loop-n.invariant.going c.join_word-next_p.ensures in
+    let step = c.join_word-next_p.ensures in
+    record {
+      going = go;
+      later = omega (arith, step.left.later);
+      left = λ h. walked-in c.args.a.now c.places-count.result (c.places-count.result - (c.loop-n.n + 1)) _ (c.args.i + 1) (omega arith) go.left;
+      right = λ h. walked-in c.args.b.now c.places-count.result (c.places-count.result - (c.loop-n.n + 1)) _ (c.args.j + 1) (omega arith) go.right;
+      known = step.known;
+      room = omega (arith, step.room);
+      spare = omega (arith, step.spare);
+    }
 
 pub returns : goal.returns
 returns g t c =
     let new = pushed_room g.row.N (get_or c.args.a.now c.args.i (Variable 0)) (elems c.args.out.now) c.push-2.result (elems c.push-2.new.self) c.push-2.ensures (omega (arith, c.requires.left.1)) in
     going-last c.args.a.now c.args.b.now c.args.i c.args.j (Variable 0) c.requires.left.1 c.requires.right.1 c.requires.left.0 c.requires.right.0
     c.places-count.result (c.places-count.result - c.loop-n.n) c.loop-n.p c.loop-n.q _ (elems c.push-2.new.self) _ _ _
-    (c.fellows.ensures.0 c.if-not-fellows.false) c.places-count.ensures.value (omega arith) new c.loop-n.invariant
+    (c.fellows.ensures.0 c.if-not-fellows.false) c.places-count.ensures.value (omega arith) new c.loop-n.invariant.going

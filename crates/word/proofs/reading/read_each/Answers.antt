@@ -12,15 +12,15 @@ use Rattle.word.proofs.reading.read_each.Goals as goal
 pub loop-need-init : goal.loop-need-init
 loop-need-init g c = (omega arith, take_all _ _ (omega arith), omega arith, refl)
 
-pub returns-in-err-value : goal.returns-in-err-value
-returns-in-err-value g c =
+pub returns-in_err-value : goal.returns-in_err-value
+returns-in_err-value g c =
     let input = c.args.input.now in
     let before = elems c.args.nodes.now in
     let held = elems c.loop-need.nodes in
     let at = c.loop-need.at in
-    let fault = c.in-err-value.field-0.0 in
+    let fault = c.in_err-value.field-0.0 in
     let p = err_from_is_err_and c.from-residual.result c.from-residual.ensures.1 in
-    let told : read_number input at ≡ Err fault = sym c.read.ensures.value ∙ c.in-err-value.was in
+    let told : read_number input at ≡ Err fault = sym c.read.ensures.value ∙ c.in_err-value.was in
     let left = read_words c.loop-need.need (g.row.N - length held) c.loop-need.seen input at held in
     let all = read_words c.args.count (g.row.N - length before) c.args.seen input c.args.at before in
     record {
@@ -37,8 +37,8 @@ returns-then-len g c =
     let before = elems c.args.nodes.now in
     let held = elems c.loop-need.nodes in
     let at = c.loop-need.at in
-    let first : ℕ × ℕ = (c.in-ok-value.value, c.in-ok-value.next) in
-    let told : read_number input at ≡ Ok first = sym c.read.ensures.value ∙ c.in-ok-value.was in
+    let first : ℕ × ℕ = (c.in_ok-value.value, c.in_ok-value.next) in
+    let told : read_number input at ≡ Ok first = sym c.read.ensures.value ∙ c.in_ok-value.was in
     let left = read_words c.loop-need.need (g.row.N - length held) c.loop-need.seen input at held in
     let all = read_words c.args.count (g.row.N - length before) c.args.seen input c.args.at before in
     record {
@@ -49,18 +49,18 @@ returns-then-len g c =
       kept = c.loop-need.invariant.1;
     }
 
-pub returns-in-err-read : goal.returns-in-err-read
-returns-in-err-read g c =
+pub returns-in_err-read : goal.returns-in_err-read
+returns-in_err-read g c =
     let input = c.args.input.now in
     let before = elems c.args.nodes.now in
     let held = elems c.loop-need.nodes in
     let at = c.loop-need.at in
     let seen = c.loop-need.seen in
-    let first : ℕ × ℕ = (c.in-ok-value.value, c.in-ok-value.next) in
-    let fault = c.in-err-read.field-0.0 in
+    let first : ℕ × ℕ = (c.in_ok-value.value, c.in_ok-value.next) in
+    let fault = c.in_err-read.field-0.0 in
     let p = err_from_is_err_and c.from-residual-in-err-read.result c.from-residual-in-err-read.ensures.1 in
-    let told : read_number input at ≡ Ok first = sym c.read.ensures.value ∙ c.in-ok-value.was in
-    let refused : node_at seen input at first.0 first.1 ≡ Err fault = sym c.read-node.ensures ∙ c.in-err-read.was in
+    let told : read_number input at ≡ Ok first = sym c.read.ensures.value ∙ c.in_ok-value.was in
+    let refused : node_at seen input at first.0 first.1 ≡ Err fault = sym c.read_node.ensures ∙ c.in_err-read.was in
     let left = read_words c.loop-need.need (g.row.N - length held) seen input at held in
     let all = read_words c.args.count (g.row.N - length before) c.args.seen input c.args.at before in
     record {
@@ -71,17 +71,17 @@ returns-in-err-read g c =
       kept = c.loop-need.invariant.1;
     }
 
-pub overflow-add-need : goal.overflow-add-need
-overflow-add-need g c =
-    let read = c.in-ok-read.read in
-    let node : node_at c.loop-need.seen c.args.input.now c.loop-need.at c.in-ok-value.value c.in-ok-value.next ≡ Ok read = sym c.read-node.ensures ∙ c.in-ok-read.was in
-    let few : read.places ≤ 8 = node-places c.loop-need.seen c.args.input.now c.loop-need.at c.in-ok-value.value c.in-ok-value.next read node in
+pub overflow_add-need : goal.overflow_add-need
+overflow_add-need g c =
+    let read = c.in_ok-read.read in
+    let node : node_at c.loop-need.seen c.args.input.now c.loop-need.at c.in_ok-value.value c.in_ok-value.next ≡ Ok read = sym c.read_node.ensures ∙ c.in_ok-read.was in
+    let few : read.places ≤ 8 = node-places c.loop-need.seen c.args.input.now c.loop-need.at c.in_ok-value.value c.in_ok-value.next read node in
     omega (arith, c.requires)
 
 pub loop-need-smaller : goal.loop-need-smaller
 loop-need-smaller g c =
     let held = elems c.loop-need.nodes in
-    let node = c.in-ok-read.read.node in
+    let node = c.in_ok-read.read.node in
     let more = elems c.push.new.self in
     let room : length held < g.row.N = omega arith in
     let pushed : more ≡ held ++ node ∷ [] = pushed_room g.row.N node held c.push.result more c.push.ensures room in
@@ -95,14 +95,14 @@ loop-need-preserved g c =
     let held = elems c.loop-need.nodes in
     let at = c.loop-need.at in
     let seen = c.loop-need.seen in
-    let first : ℕ × ℕ = (c.in-ok-value.value, c.in-ok-value.next) in
-    let read = c.in-ok-read.read in
+    let first : ℕ × ℕ = (c.in_ok-value.value, c.in_ok-value.next) in
+    let read = c.in_ok-read.read in
     let more = elems c.push.new.self in
     let room : length held < g.row.N = omega arith in
     let pushed : more ≡ held ++ read.node ∷ [] = pushed_room g.row.N read.node held c.push.result more c.push.ensures room in
     let longer : length more ≡ length held + 1 = ap length pushed ∙ length_push held read.node in
-    let told : read_number input at ≡ Ok first = sym c.read.ensures.value ∙ c.in-ok-value.was in
-    let node : node_at seen input at first.0 first.1 ≡ Ok read = sym c.read-node.ensures ∙ c.in-ok-read.was in
+    let told : read_number input at ≡ Ok first = sym c.read.ensures.value ∙ c.in_ok-value.was in
+    let node : node_at seen input at first.0 first.1 ≡ Ok read = sym c.read_node.ensures ∙ c.in_ok-read.was in
     let few : read.places ≤ 8 = node-places seen input at first.0 first.1 read node in
     let front : take (length before) (held ++ read.node ∷ []) ≡ before = take-append-le (length before) held (read.node ∷ []) (omega arith) ∙ c.loop-need.invariant.1 in
     let left : g.row.N - length more ≡ g.row.N - length held - 1 = omega arith in

@@ -9,8 +9,8 @@ use Rattle.word.proofs.Back.{reads-packed}
 use Rattle.number.proofs.Answers.{ok_same}
 use Rattle.word.proofs.writing.write_nodes.Goals as goal
 
-pub write-node-requires : goal.write-node-requires
-write-node-requires c =
+pub write_node-requires : goal.write_node-requires
+write_node-requires c =
     let nodes = c.args.nodes.now in
     let i = c.loop-node.node-index in
     let node = get_or nodes i (Variable 0) in
@@ -18,7 +18,7 @@ write-node-requires c =
     let long = ap (λ l. length (packed l)) more ∙ length_more node (drop (i + 1) nodes) in
     record {
       number = (subst Writable more c.loop-node.invariant.1).0;
-      room = omega (arith, long, c.packed-length-length.ensures);
+      room = omega (arith, long, c.packed_length-length.ensures);
     }
 
 pub loop-node-preserved : goal.loop-node-preserved
@@ -32,9 +32,9 @@ loop-node-preserved c =
     let more : drop i nodes ≡ node ∷ drop (i + 1) nodes = drop_more nodes i (Variable 0) (omega arith) in
     let split : packed (drop i nodes) ≡ packed_node node ++ rest = ap packed more ∙ packed_more node (drop (i + 1) nodes) in
     let long = ap (λ l. length (packed l)) more ∙ length_more node (drop (i + 1) nodes) in
-    let next : c.in-ok-to.to ≡ to + length (packed_node node) = ok_same _ _ c.in-ok-to.ensures.place in
-    let put : c.write-node.new.out ≡ puts out to (packed_node node) = c.write-node.ensures.puts ∙ sym (puts-is out to (packed_node node) (omega (arith, c.packed-length-length.ensures))) in
-    let same : puts c.write-node.new.out c.in-ok-to.to rest ≡ puts out to (packed (drop i nodes)) = rw (put, next, split) (sym (puts-join out to (packed_node node) rest)) in
+    let next : c.in_ok-to.to ≡ to + length (packed_node node) = ok_same _ _ c.in_ok-to.ensures.place in
+    let put : c.write_node.new.out ≡ puts out to (packed_node node) = c.write_node.ensures.puts ∙ sym (puts-is out to (packed_node node) (omega (arith, c.packed_length-length.ensures))) in
+    let same : puts c.write_node.new.out c.in_ok-to.to rest ≡ puts out to (packed (drop i nodes)) = rw (put, next, split) (sym (puts-join out to (packed_node node) rest)) in
     (omega arith, (subst Writable more c.loop-node.invariant.1).1, same ∙ c.loop-node.invariant.2)
 
 pub returns : goal.returns
@@ -46,7 +46,7 @@ returns c =
     let to = c.loop-node.to in
     let none : packed (drop c.loop-node.node-index nodes) ≡ [] = ap packed (drop_all c.loop-node.node-index nodes (omega arith)) ∙ packed_none in
     let place : to ≡ at + length (packed nodes) = omega (arith, ap length none) in
-    let inside : to ≤ length before = omega (arith, c.packed-length-length.ensures) in
+    let inside : to ≤ length before = omega (arith, c.packed_length-length.ensures) in
     let put : out ≡ take at before ++ (packed nodes ++ drop to before) =
     sym (ap (puts out to) none) ∙ c.loop-node.invariant.2 ∙ puts-is before at (packed nodes) (omega arith) ∙ ap (λ n. take at before ++ (packed nodes ++ drop n before)) (sym place) in
     let stands : drop at out ≡ packed nodes ++ drop to before = ap (drop at) put ∙ drop_at (take at before) (packed nodes ++ drop to before) at (length-take-le at before (omega arith)) in

@@ -8,9 +8,9 @@ use Rattle.term.specs.Words.{var}
 use Rattle.term.proofs.Codings.{meant}
 use Rattle.place.proofs.placed.PlaceWord.new.Goals as goal
 
-pub invariant-of-result : goal.invariant-of-result
+pub invariant_of-result : goal.invariant_of-result
 unfolding lawful
-invariant-of-result c =
+invariant_of-result c =
     let empty = c.new-nodes.ensures in
     let one = pushed_room 64 (Variable 0) (elems c.new-nodes.result) c.push.result (elems c.push.new.self) c.push.ensures (omega (arith, ap length empty)) ∙ ap (λ (l : List Node). l ++ Variable 0 ∷ []) empty in
     (ap (λ (l : List Node). lawful l 1 0) one, tt)

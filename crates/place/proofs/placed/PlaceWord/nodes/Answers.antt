@@ -3,4 +3,4 @@ use Rattle.place.specs.Held.{held}
 use Rattle.place.proofs.placed.PlaceWord.nodes.Goals as goal
 
 pub returns : goal.returns
-returns c = c.as-slice.ensures.value ∙ sym (held c.args.self.now).nodes-of
+returns c = c.as_slice.ensures.value ∙ sym (held c.args.self.now).nodes-of

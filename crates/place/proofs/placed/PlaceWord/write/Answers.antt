@@ -8,16 +8,16 @@ use Rattle.place.specs.Held.{held, few}
 use Rattle.place.proofs.Forms.{reads-back}
 use Rattle.place.proofs.placed.PlaceWord.write.Goals as goal
 
-pub write-nodes-requires : goal.write-nodes-requires
-write-nodes-requires c =
+pub write_nodes-requires : goal.write_nodes-requires
+write_nodes-requires c =
     let p = c.args.self.now in
-    subst Writable (sym c.as-slice.ensures.value) (lawful-writable (elems p.nodes) 1 0 p.one (omega (arith, few p)))
+    subst Writable (sym c.as_slice.ensures.value) (lawful-writable (elems p.nodes) 1 0 p.one (omega (arith, few p)))
 
 pub returns : goal.returns
 returns c =
     let p = c.args.self.now in
-    let same = c.as-slice.ensures.value ∙ sym (held p).nodes-of in
+    let same = c.as_slice.ensures.value ∙ sym (held p).nodes-of in
     record {
-      wrote = subst (λ (l : List Node). Wrote (packed l) 0 c.args.out.now c.write-nodes.result c.write-nodes.new.out) same c.write-nodes.ensures.wrote;
+      wrote = subst (λ (l : List Node). Wrote (packed l) 0 c.args.out.now c.write_nodes.result c.write_nodes.new.out) same c.write_nodes.ensures.wrote;
       back = reads-back p;
     }

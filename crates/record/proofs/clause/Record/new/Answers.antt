@@ -4,9 +4,9 @@ use Rattle.term.specs.Coding.{decode}
 use Rattle.record.specs.Clauses.{begins, whole, clausal, distinct}
 use Rattle.record.proofs.clause.Record.new.Goals as goal
 
-pub invariant-of-result : goal.invariant-of-result
+pub invariant_of-result : goal.invariant_of-result
 unfolding whole clausal distinct decode
-invariant-of-result c =
+invariant_of-result c =
     let none = c.new.ensures in (
       ap whole none,
       (

@@ -3,29 +3,29 @@ use Rattle.std.proofs.lemmas.Result.{err_from_is_err_and}
 use Rattle.record.proofs.Forms.{answer-number, answer-many, answer-refused, answer-left, answer-read}
 use Rattle.record.proofs.clause.Record.read.Goals as goal
 
-pub returns-in-err-count : goal.returns-in-err-count
-returns-in-err-count c =
+pub returns-in_err-count : goal.returns-in_err-count
+returns-in_err-count c =
     let p = err_from_is_err_and c.from-residual.result c.from-residual.ensures.1 in
-    let a = answer-number c.args.input.now (λ i. (c.type-inv.input i).fits) c.args.self.now c.in-err-count.field-0.0 (sym c.read.ensures.value ∙ c.in-err-count.was) in
+    let a = answer-number c.args.input.now (λ i. (c.type_inv.input i).fits) c.args.self.now c.in_err-count.field-0.0 (sym c.read.ensures.value ∙ c.in_err-count.was) in
     rw (p.1, p.2) (record { value = a.value; exact = a.exact })
 
 pub returns-then-count-gt-LITERALS : goal.returns-then-count-gt-LITERALS
 returns-then-count-gt-LITERALS c =
-    let a = answer-many c.args.input.now (λ i. (c.type-inv.input i).fits) c.args.self.now c.in-ok-count.count c.in-ok-count.next (sym c.read.ensures.value ∙ c.in-ok-count.was) (omega arith) in
+    let a = answer-many c.args.input.now (λ i. (c.type_inv.input i).fits) c.args.self.now c.in_ok-count.count c.in_ok-count.next (sym c.read.ensures.value ∙ c.in_ok-count.was) (omega arith) in
     record { value = a.value; exact = a.exact }
 
-pub returns-in-err-record : goal.returns-in-err-record
-returns-in-err-record c =
+pub returns-in_err-record : goal.returns-in_err-record
+returns-in_err-record c =
     let p = err_from_is_err_and c.from-residual-in-err-record.result c.from-residual-in-err-record.ensures.1 in
-    let a = answer-refused c.args.input.now (λ i. (c.type-inv.input i).fits) c.args.self.now c.in-ok-count.count c.in-ok-count.next (sym c.read.ensures.value ∙ c.in-ok-count.was) c.in-err-record.field-0.0 (omega arith) c.in-err-record.ensures in
+    let a = answer-refused c.args.input.now (λ i. (c.type_inv.input i).fits) c.args.self.now c.in_ok-count.count c.in_ok-count.next (sym c.read.ensures.value ∙ c.in_ok-count.was) c.in_err-record.field-0.0 (omega arith) c.in_err-record.ensures in
     rw (p.1, p.2) (record { value = a.value; exact = a.exact })
 
 pub returns-then-end-input : goal.returns-then-end-input
 returns-then-end-input c =
-    let a = answer-left c.args.input.now (λ i. (c.type-inv.input i).fits) c.args.self.now c.in-ok-count.count c.in-ok-count.next (sym c.read.ensures.value ∙ c.in-ok-count.was) c.in-ok-record.record c.in-ok-record.end (omega arith) c.in-ok-record.ensures c.if-end-input.true in
+    let a = answer-left c.args.input.now (λ i. (c.type_inv.input i).fits) c.args.self.now c.in_ok-count.count c.in_ok-count.next (sym c.read.ensures.value ∙ c.in_ok-count.was) c.in_ok-record.record c.in_ok-record.end (omega arith) c.in_ok-record.ensures c.if-end-input.true in
     record { value = a.value; exact = a.exact }
 
 pub returns : goal.returns
 returns c =
-    let a = answer-read c.args.input.now (λ i. (c.type-inv.input i).fits) c.args.self.now c.in-ok-count.count c.in-ok-count.next (sym c.read.ensures.value ∙ c.in-ok-count.was) c.in-ok-record.record c.in-ok-record.end (omega arith) c.in-ok-record.ensures c.if-end-input.false in
+    let a = answer-read c.args.input.now (λ i. (c.type_inv.input i).fits) c.args.self.now c.in_ok-count.count c.in_ok-count.next (sym c.read.ensures.value ∙ c.in_ok-count.was) c.in_ok-record.record c.in_ok-record.end (omega arith) c.in_ok-record.ensures c.if-end-input.false in
     record { value = a.value; exact = a.exact }

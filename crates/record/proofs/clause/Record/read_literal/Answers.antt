@@ -7,18 +7,18 @@ use Rattle.record.proofs.Places.{length-begins}
 use Rattle.record.proofs.Kept.{whole-record, grown-invariant, grown-adds}
 use Rattle.record.proofs.clause.Record.read_literal.Goals as goal
 
-pub add-literal-answer-requires : goal.add-literal-answer-requires
-add-literal-answer-requires c = let r = c.args.self.now in record { whole = whole-record r; begun = c.as-slice.ensures.value ∙ r.begun; counted = c.requires.counted }
+pub add_literal-answer-requires : goal.add_literal-answer-requires
+add_literal-answer-requires c = let r = c.args.self.now in record { whole = whole-record r; begun = c.as_slice.ensures.value ∙ r.begun; counted = c.requires.counted }
 
-pub invariant-of-self : goal.invariant-of-self
-invariant-of-self c =
+pub invariant_of-self : goal.invariant_of-self
+invariant_of-self c =
     let r = c.args.self.now in
     let room : length (elems r.starts) < 16 = omega (arith, ap length r.begun, length-begins 0 (literals r), c.requires.room) in
     let pushed = pushed_room 16 c.len-start.result (elems r.starts) c.push.result (elems c.push.new.self) c.push.ensures room ∙ ap (λ (n : ℕ). elems r.starts ++ n ∷ []) c.len-start.ensures.value in
-    let k = grown-invariant r c.args.input.now (λ i. (c.type-inv.input i).fits) c.args.at (read_literal (literals r) c.args.input.now c.args.at) refl c.add-literal-answer.result (elems c.add-literal-answer.new.nodes) c.add-literal-answer.ensures (sym c.if-is-ok.ensures.value) (elems c.push.new.self) pushed in
+    let k = grown-invariant r c.args.input.now (λ i. (c.type_inv.input i).fits) c.args.at (read_literal (literals r) c.args.input.now c.args.at) refl c.add_literal-answer.result (elems c.add_literal-answer.new.nodes) c.add_literal-answer.ensures (sym c.if-is_ok.ensures.value) (elems c.push.new.self) pushed in
     (k.whole-nodes, (k.clause, (k.apart, (k.begun, tt))))
 
-pub returns-then-is-ok : goal.returns-then-is-ok
-returns-then-is-ok c =
+pub returns-then-is_ok : goal.returns-then-is_ok
+returns-then-is_ok c =
     let r = c.args.self.now in
-    grown-adds r c.args.input.now (λ i. (c.type-inv.input i).fits) c.args.at (read_literal (literals r) c.args.input.now c.args.at) c.add-literal-answer.result (elems c.add-literal-answer.new.nodes) c.add-literal-answer.ensures (sym c.if-is-ok.ensures.value)
+    grown-adds r c.args.input.now (λ i. (c.type_inv.input i).fits) c.args.at (read_literal (literals r) c.args.input.now c.args.at) c.add_literal-answer.result (elems c.add_literal-answer.new.nodes) c.add_literal-answer.ensures (sym c.if-is_ok.ensures.value)

@@ -8,8 +8,8 @@ use Rattle.record.proofs.Places.{len-push}
 use Rattle.record.proofs.Turns.{literals-none, literals-fault, literals-more, further, stopped, builds-fault, builds-read}
 use Rattle.record.proofs.clause.packing.read_literals.Goals as goal
 
-pub read-literal-requires : goal.read-literal-requires
-read-literal-requires c = record { room = omega (arith, c.loop-k.invariant.0, c.requires); counted = c.loop-k.invariant.1 }
+pub read_literal-requires : goal.read_literal-requires
+read_literal-requires c = record { room = omega (arith, c.loop-k.invariant.0, c.requires); counted = c.loop-k.invariant.1 }
 
 pub loop-k-init : goal.loop-k-init
 loop-k-init c =
@@ -17,13 +17,13 @@ loop-k-init c =
     let z : c.args.count - 0 ≡ c.args.count = omega arith in
     (ap len none, sym (ap variables none), rw (none, z))
 
-pub returns-in-err-next : goal.returns-in-err-next
-returns-in-err-next c =
+pub returns-in_err-next : goal.returns-in_err-next
+returns-in_err-next c =
     let input = c.args.input.now in
     let before = literals c.loop-k.record in
-    let told = c.in-err-next.field-0.0 in
+    let told = c.in_err-next.field-0.0 in
     let p = err_from_is_err_and c.from-residual.result c.from-residual.ensures.1 in
-    let s = stopped before input c.loop-k.at (literals c.read-literal.new.self) c.loop-k.k (read_literal before input c.loop-k.at) refl c.read-literal.result c.read-literal.ensures c.in-literal.result c.in-literal.ensures told c.in-err-next.was in
+    let s = stopped before input c.loop-k.at (literals c.read_literal.new.self) c.loop-k.k (read_literal before input c.loop-k.at) refl c.read_literal.result c.read_literal.ensures c.in_literal.result c.in_literal.ensures told c.in_err-next.was in
     let fault = literals-fault (c.args.count - c.loop-k.k) before input c.loop-k.at s.0 (omega arith) s.1 in
     let same : in_literal (len before) s.0 ≡ told = ap (λ (n : ℕ). in_literal n s.0) c.loop-k.invariant.0 ∙ sym s.2 in
     rw (p.1, p.2) (builds-fault (read_literals c.args.count nil input c.args.at) told (sym c.loop-k.invariant.2 ∙ fault ∙ ap Err same))
@@ -32,13 +32,13 @@ pub loop-k-preserved : goal.loop-k-preserved
 loop-k-preserved c =
     let input = c.args.input.now in
     let before = literals c.loop-k.record in
-    let after = literals c.read-literal.new.self in
-    let f = further before input c.loop-k.at after c.loop-k.k (read_literal before input c.loop-k.at) refl c.read-literal.result c.read-literal.ensures c.in-literal.result c.in-literal.ensures c.in-ok-next.next c.in-ok-next.stood c.in-ok-next.was in
-    let more = literals-more (c.args.count - c.loop-k.k) before input c.loop-k.at f.literal c.in-ok-next.next (omega arith) f.read in
+    let after = literals c.read_literal.new.self in
+    let f = further before input c.loop-k.at after c.loop-k.k (read_literal before input c.loop-k.at) refl c.read_literal.result c.read_literal.ensures c.in_literal.result c.in_literal.ensures c.in_ok-next.next c.in_ok-next.stood c.in_ok-next.was in
+    let more = literals-more (c.args.count - c.loop-k.k) before input c.loop-k.at f.literal c.in_ok-next.next (omega arith) f.read in
     let less : c.args.count - (c.loop-k.k + 1) ≡ c.args.count - c.loop-k.k - 1 = omega arith in (
       ap len f.longer ∙ len-push before f.literal ∙ ap (λ (n : ℕ). n + 1) c.loop-k.invariant.0,
       f.counts,
-      rw less (ap (λ (ls : Words). read_literals (c.args.count - c.loop-k.k - 1) ls input c.in-ok-next.next) f.longer ∙ sym more ∙ c.loop-k.invariant.2),
+      rw less (ap (λ (ls : Words). read_literals (c.args.count - c.loop-k.k - 1) ls input c.in_ok-next.next) f.longer ∙ sym more ∙ c.loop-k.invariant.2),
     )
 
 pub returns : goal.returns

@@ -8,12 +8,12 @@ use Rattle.place.specs.Places.{meaning}
 use Rattle.place.specs.Held.{held, few, join-lawful, join-is-least, join-nodes}
 use Rattle.place.proofs.placed.ops.PlaceWordKind.join.Goals as goal
 
-pub join-word-requires : goal.join-word-requires
-join-word-requires c =
+pub join_word-requires : goal.join_word-requires
+join_word-requires c =
     let p = c.args.self.now in
     let q = c.args.other.now in
-    let ep = c.as-slice-left.ensures.value in
-    let eq = c.as-slice-right.ensures.value in
+    let ep = c.as_slice-left.ensures.value in
+    let eq = c.as_slice-right.ensures.value in
     let no = ap length c.new-nodes.ensures in
     let np = ap length c.new-pairs.ensures in (
       lit< tt,
@@ -24,7 +24,7 @@ join-word-requires c =
           (
             (subst Whole (sym eq) (held q).whole, omega (arith, ap length eq, (held q).some)),
             (
-              inside-none c.as-slice-left.result.now c.as-slice-right.result.now (elems c.new-pairs.result) c.new-pairs.ensures,
+              inside-none c.as_slice-left.result.now c.as_slice-right.result.now (elems c.new-pairs.result) c.new-pairs.ensures,
               (omega (arith, ap length ep, few p), (omega (arith, ap length ep, few p), lit≤ tt)),
             ),
           ),
@@ -32,17 +32,17 @@ join-word-requires c =
       ),
     )
 
-pub invariant-of-self : goal.invariant-of-self
-invariant-of-self c =
+pub invariant_of-self : goal.invariant_of-self
+invariant_of-self c =
     let p = c.args.self.now in
     let q = c.args.other.now in
-    let e = join-nodes _ _ (elems p.nodes) (elems q.nodes) _ _ _ _ _ _ c.as-slice-left.ensures.value c.as-slice-right.ensures.value c.new-nodes.ensures c.new-pairs.ensures c.join-word.ensures in
-    (join-lawful (meaning p) (meaning q) (elems c.join-word.new.out) (held p).narrow e, tt)
+    let e = join-nodes _ _ (elems p.nodes) (elems q.nodes) _ _ _ _ _ _ c.as_slice-left.ensures.value c.as_slice-right.ensures.value c.new-nodes.ensures c.new-pairs.ensures c.join_word.ensures in
+    (join-lawful (meaning p) (meaning q) (elems c.join_word.new.out) (held p).narrow e, tt)
 
 pub returns : goal.returns
 returns c =
     let p = c.args.self.now in
     let q = c.args.other.now in
-    let e = join-nodes _ _ (elems p.nodes) (elems q.nodes) _ _ _ _ _ _ c.as-slice-left.ensures.value c.as-slice-right.ensures.value c.new-nodes.ensures c.new-pairs.ensures c.join-word.ensures in
-    let value = meant (join (meaning p) (meaning q) []).0 (elems c.join-word.new.out) e in
+    let e = join-nodes _ _ (elems p.nodes) (elems q.nodes) _ _ _ _ _ _ c.as_slice-left.ensures.value c.as_slice-right.ensures.value c.new-nodes.ensures c.new-pairs.ensures c.join_word.ensures in
+    let value = meant (join (meaning p) (meaning q) []).0 (elems c.join_word.new.out) e in
     record { joined = (join-is-least p q _ value, tt); passes = refl; value = value }
