@@ -1,5 +1,5 @@
 -- Bytes of nodes, counted and put into a buffer one after the other.
-use Rattle.std.proofs.Common.{◌≡◌, ℕ, suc, ◌+◌, ◌-◌, ◌≤◌, List, [], ◌∷◌, ◌++◌, length, take, drop, set, Ok, Err, Result, sym, refl, ap, ◌∙◌, arith, length-append, length-set}
+use Rattle.std.proofs.Common.{◌≡◌, ℕ, suc, ◌+◌, ◌≤◌, List, [], ◌∷◌, ◌++◌, length, take, drop, set, Ok, Err, Result, sym, refl, ap, ◌∙◌, arith, length-append, length-set}
 use Rattle.number.specs.declared.fault.NoRoom.{NoRoom}
 use Rattle.number.specs.Groups.{groups, Fewest}
 use Rattle.number.specs.Forms.{form}

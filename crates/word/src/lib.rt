@@ -1,5 +1,6 @@
 // The packed form of words: reader and writer of lists of nodes.
 #![tactic(auto)]
+
 mod fault;
 mod reading;
 mod writing;

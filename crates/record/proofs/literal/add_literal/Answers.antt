@@ -8,13 +8,13 @@ use Rattle.record.proofs.literal.add_literal.Goals as goal
 
 pub returns-in_err-head : goal.returns-in_err-head
 returns-in_err-head c =
-    let p = err_from_is_err_and c.from-residual.result c.from-residual.ensures.1 in
+    let p = err_from_is_err_and c.from_residual.result c.from_residual.ensures.1 in
     rw (p.1, p.2)
     (start-refused (elems c.args.nodes.now) c.requires.whole c.args.input.now c.args.at c.len-start.result c.len-start.ensures.value c.read_head.result c.read_head.ensures c.in_err-head.field-0.0 c.in_err-head.was)
 
 pub returns-in_err-next : goal.returns-in_err-next
 returns-in_err-next c =
-    let p = err_from_is_err_and c.from-residual-in-err-next.result c.from-residual-in-err-next.ensures.1 in
+    let p = err_from_is_err_and c.from_residual-in-err-next.result c.from_residual-in-err-next.ensures.1 in
     rw (p.1, p.2)
     (literal-refused (elems c.args.nodes.now) c.requires.whole c.args.input.now c.args.at (λ i. (c.type_inv.input i).fits) c.len-start.result c.len-start.ensures.value c.read_head.result c.read_head.ensures
     c.in_ok-head.head c.in_ok-head.was c.push.result (elems c.push.new.self) c.push.ensures c.args.seen c.requires.counted (elems c.read_words.new.nodes) c.in_err-next.field-0.0 c.in_err-next.ensures.value)

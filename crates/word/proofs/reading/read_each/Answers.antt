@@ -19,13 +19,13 @@ returns-in_err-value g c =
     let held = elems c.loop-need.nodes in
     let at = c.loop-need.at in
     let fault = c.in_err-value.field-0.0 in
-    let p = err_from_is_err_and c.from-residual.result c.from-residual.ensures.1 in
+    let p = err_from_is_err_and c.from_residual.result c.from_residual.ensures.1 in
     let told : read_number input at ≡ Err fault = sym c.read.ensures.value ∙ c.in_err-value.was in
     let left = read_words c.loop-need.need (g.row.N - length held) c.loop-need.seen input at held in
     let all = read_words c.args.count (g.row.N - length before) c.args.seen input c.args.at before in
     record {
       value =
-          gives-fault left all c.from-residual.result (Number fault) held c.loop-need.invariant.3
+          gives-fault left all c.from_residual.result (Number fault) held c.loop-need.invariant.3
           (words-fault c.loop-need.need (g.row.N - length held) c.loop-need.seen input at held fault (omega arith) told)
           (p.1 ∙ ap Err p.2);
       kept = c.loop-need.invariant.1;
@@ -58,14 +58,14 @@ returns-in_err-read g c =
     let seen = c.loop-need.seen in
     let first : ℕ × ℕ = (c.in_ok-value.value, c.in_ok-value.next) in
     let fault = c.in_err-read.field-0.0 in
-    let p = err_from_is_err_and c.from-residual-in-err-read.result c.from-residual-in-err-read.ensures.1 in
+    let p = err_from_is_err_and c.from_residual-in_err-read.result c.from_residual-in_err-read.ensures.1 in
     let told : read_number input at ≡ Ok first = sym c.read.ensures.value ∙ c.in_ok-value.was in
     let refused : node_at seen input at first.0 first.1 ≡ Err fault = sym c.read_node.ensures ∙ c.in_err-read.was in
     let left = read_words c.loop-need.need (g.row.N - length held) seen input at held in
     let all = read_words c.args.count (g.row.N - length before) c.args.seen input c.args.at before in
     record {
       value =
-          gives-fault left all c.from-residual-in-err-read.result fault held c.loop-need.invariant.3
+          gives-fault left all c.from_residual-in_err-read.result fault held c.loop-need.invariant.3
           (words-refused c.loop-need.need (g.row.N - length held) seen input at held first fault (omega arith) (omega arith) told refused)
           (p.1 ∙ ap Err p.2);
       kept = c.loop-need.invariant.1;

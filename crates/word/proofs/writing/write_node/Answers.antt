@@ -15,14 +15,14 @@ returns-in-Variable c =
     let p = number-puts _ at out c.write.result c.write.new.out c.write.ensures.wrote room in
     record { place = rw bytes p.0; puts = rw bytes (p.1 ∙ puts-is out at (form (2 * c.in-Variable.x)) room) }
 
-pub returns-in_err-next : goal.returns-in_err-next
-returns-in_err-next c =
+pub returns-in_err-next-in-Applied : goal.returns-in_err-next-in-Applied
+returns-in_err-next-in-Applied c =
     let bytes : packed_node c.args.node ≡ form c.packed_symbol.result ++ form c.in-Applied.places = ap packed_node c.in-Applied.is ∙ ap (λ n. form n ++ form c.in-Applied.places) (sym c.packed_symbol.ensures) in
     let long = ap length bytes ∙ length-append (form c.packed_symbol.result) (form c.in-Applied.places) in
-    absurd (omega (arith, c.in_err-next.ensures.wrote.0, c.requires.room))
+    absurd (omega (arith, c.in_err-next-in-Applied.ensures.wrote.0, c.requires.room))
 
-pub returns-in_ok-next : goal.returns-in_ok-next
-returns-in_ok-next c =
+pub returns-in_ok-next-in-Applied : goal.returns-in_ok-next-in-Applied
+returns-in_ok-next-in-Applied c =
     let out = c.args.out.now in
     let at = c.args.at in
     let first = form c.packed_symbol.result in
@@ -31,11 +31,11 @@ returns-in_ok-next c =
     let long = ap length bytes ∙ length-append first second in
     let mid = c.write-in-Applied.new.out in
     let one = number-puts _ at out c.write-in-Applied.result mid c.write-in-Applied.ensures.wrote (omega (arith, c.requires.room)) in
-    let next : c.in_ok-next.next ≡ at + length first = c.in_ok-next.ensures.wrote.0 in
+    let next : c.in_ok-next-in-Applied.next ≡ at + length first = c.in_ok-next-in-Applied.ensures.wrote.0 in
     let kept : length mid ≡ length out = ap length one.1 ∙ length-puts out at first in
-    let two = number-puts _ c.in_ok-next.next mid c.write-in-Applied-2.result c.write-in-Applied-2.new.out c.write-in-Applied-2.ensures.wrote (omega (arith, c.requires.room)) in
-    let all = two-puts out mid c.write-in-Applied-2.new.out first second at c.in_ok-next.next next one.1 two.1 in
-    let sum : c.in_ok-next.next + length second ≡ at + length (packed_node c.args.node) = omega arith in
+    let two = number-puts _ c.in_ok-next-in-Applied.next mid c.write-in-Applied-2.result c.write-in-Applied-2.new.out c.write-in-Applied-2.ensures.wrote (omega (arith, c.requires.room)) in
+    let all = two-puts out mid c.write-in-Applied-2.new.out first second at c.in_ok-next-in-Applied.next next one.1 two.1 in
+    let sum : c.in_ok-next-in-Applied.next + length second ≡ at + length (packed_node c.args.node) = omega arith in
     record {
       place = two.0 ∙ ap Ok sum;
       puts = all ∙ ap (puts out at) (sym bytes) ∙ puts-is out at (packed_node c.args.node) c.requires.room;

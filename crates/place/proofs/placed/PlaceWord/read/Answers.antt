@@ -6,7 +6,7 @@ use Rattle.place.proofs.placed.PlaceWord.read.Goals as goal
 
 pub returns-in_err-end : goal.returns-in_err-end
 returns-in_err-end c =
-    let p = err_from_is_err_and c.from-residual.result c.from-residual.ensures.1 in
+    let p = err_from_is_err_and c.from_residual.result c.from_residual.ensures.1 in
     let a = answer-fault c.args.input.now c.args.self.now (elems c.new-nodes.result) (elems c.read_words.new.nodes) c.new-nodes.ensures c.in_err-end.field-0.0 c.in_err-end.ensures.value in
     rw (p.1, p.2) (record { value = a.value; exact = a.exact })
 

@@ -27,7 +27,7 @@ returns-in_err-end c =
     let start = c.form_length.ensures.table ∙ sym (length-form c.len-count.result) in
     let e = c.in_err-end.field-0.0 in
     let w = no_room (form c.len-count.result) (packed c.as_slice.result.now) c.args.out.now c.write_nodes.new.out c.form_length.result start e c.in_err-end.ensures.wrote in
-    let p = err_from_is_err_and c.from-residual.result c.from-residual.ensures.1 in
+    let p = err_from_is_err_and c.from_residual.result c.from_residual.ensures.1 in
     rw p.1 (record { wrote = subst (λ (l : List ℕ). Wrote l 0 c.args.out.now (Err e) c.write_nodes.new.out) same w; back = reads-back (literals r) (held r) })
 
 pub returns : goal.returns
