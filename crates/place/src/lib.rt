@@ -1,5 +1,6 @@
 // Place words: where in the cabinet a reel stood. The first kind of thing that a class gathers.
 #![tactic(auto)]
+
 mod fault;
 mod placed;
 

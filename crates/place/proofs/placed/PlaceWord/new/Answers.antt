@@ -13,7 +13,7 @@ unfolding lawful
 invariant_of-result c =
     let empty = c.new-nodes.ensures in
     let one = pushed_room 64 (Variable 0) (elems c.new-nodes.result) c.push.result (elems c.push.new.self) c.push.ensures (omega (arith, ap length empty)) ∙ ap (λ (l : List Node). l ++ Variable 0 ∷ []) empty in
-    (ap (λ (l : List Node). lawful l 1 0) one, tt)
+    record { one = ap (λ (l : List Node). lawful l 1 0) one }
 
 pub returns : goal.returns
 returns c =

@@ -37,7 +37,7 @@ invariant_of-self c =
     let p = c.args.self.now in
     let q = c.args.other.now in
     let e = join-nodes _ _ (elems p.nodes) (elems q.nodes) _ _ _ _ _ _ c.as_slice-left.ensures.value c.as_slice-right.ensures.value c.new-nodes.ensures c.new-pairs.ensures c.join_word.ensures in
-    (join-lawful (meaning p) (meaning q) (elems c.join_word.new.out) (held p).narrow e, tt)
+    record { one = join-lawful (meaning p) (meaning q) (elems c.join_word.new.out) (held p).narrow e }
 
 pub returns : goal.returns
 returns c =
