@@ -1,5 +1,6 @@
 // What the programs print, as values.
 #![tactic(auto)]
+
 mod numbers;
 mod places;
 mod words;
