@@ -70,9 +70,9 @@ line-more ms c g = ap taken_line (gathering-some ms c g).2
 least : (ms : List Word) (c : Class PlaceWord) → Gathering ms c → Least places (meaning (rule (gathers c))) ms
 least ms c g = subst (Least places (meaning (rule (gathers c)))) (sym g.all) (g.law g.calls (gathers c) g.run).1.least
 
-pub rules : (ms : List Word) (c : Class PlaceWord) (p : PlaceWord) (out : List ℕ) → Gathering ms c → p ≡ rule (gathers c)
+pub ruled : (ms : List Word) (c : Class PlaceWord) (p : PlaceWord) (out : List ℕ) → Gathering ms c → p ≡ rule (gathers c)
     → out ≡ codes "rule " ++ (shown (meaning p) ++ codes "\n") → Ruled ([], ms) out
-rules ms c p out g e o =
+ruled ms c p out g e o =
     let s = gathering-some ms c g in
     let below = subst (λ (q : PlaceWord). Least places (meaning q) ms) (sym e) (least ms c g) in
     subst (λ (l : List Word). Ruled ([], l) out) (sym s.2)

@@ -2,16 +2,16 @@ use Rattle.std.proofs.Common.{◌≡◌, ℕ, List, ◌++◌, IfOk, string_bytes
 use Rattle.class.specs.declared.classes.Class.{Class}
 use Rattle.place.specs.declared.placed.PlaceWord.{PlaceWord}
 use Rattle.gathering.specs.States.{Gathers}
-use Rattle.gathering.proofs.Takes.{rules, made-on}
+use Rattle.gathering.proofs.Takes.{ruled, made-on}
 use Rattle.gathering.proofs.taking.rule_line.Goals as goal
 
-pub returns-in_ok-rule : goal.returns-in_ok-rule
-returns-in_ok-rule c =
+pub returns-in_ok-rule-in-Some : goal.returns-in_ok-rule-in-Some
+returns-in_ok-rule-in-Some c =
     let text : IfOk c.format-in-Some.result (λ s. string_bytes s ≡ codes "rule " ++ (c.as_str-rule.result.now ++ codes "\n")) = search rules in
-    let name = c.as_str-rule.ensures.value ∙ c.in_ok-rule.ensures in
+    let name = c.as_str-rule.ensures.value ∙ c.in_ok-rule-in-Some.ensures in
     made-on _ _ c.format-in-Some.result text
     (λ s e ms g.
-    rules ms c.in-Some.gathering c.rule.result.now (string_bytes s)
+    ruled ms c.in-Some.gathering c.rule.result.now (string_bytes s)
     (subst (λ (o : Option (Class PlaceWord)). Gathers ms o) c.in-Some.is g)
     (c.rule.ensures ∙ c.issue-issued.ensures.rule)
     (e ∙ ap (λ (l : List ℕ). codes "rule " ++ (l ++ codes "\n")) name))

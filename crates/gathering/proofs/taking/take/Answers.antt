@@ -8,9 +8,9 @@ use Rattle.gathering.specs.States.{Gathers, Gathering}
 use Rattle.gathering.proofs.Takes.{begins}
 use Rattle.gathering.proofs.taking.take.Goals as goal
 
-pub returns-in_ok-line : goal.returns-in_ok-line
-returns-in_ok-line c ms g =
+pub returns-in_ok-line-in-None : goal.returns-in_ok-line-in-None
+returns-in_ok-line-in-None c ms g =
     let none : ms ≡ [] = subst (λ (o : Option (Class PlaceWord)). Gathers ms o) c.in-None.is g in (
       subst (λ (l : List Word). Gathering (meaning c.args.place ∷ l) c.begin.result) (sym none) (begins c.args.place c.begin.result c.begin.ensures.law),
-      c.in_ok-line.ensures.ok ∙ sym (ap taken_line none),
+      c.in_ok-line-in-None.ensures.ok ∙ sym (ap taken_line none),
     )

@@ -32,9 +32,9 @@ returns-in-Ok c =
     made-on _ _ c.take.result c.take.ensures
     (λ t goes ms g. subst (λ (o : Told). Gathers o.1 t.class × (string_bytes t.line ≡ o.0)) (one ms) (goes ms g))
 
-pub returns-in_ok-line : goal.returns-in_ok-line
-returns-in_ok-line c ms g =
+pub returns-in_ok-line-in-Err : goal.returns-in_ok-line-in-Err
+returns-in_ok-line-in-Err c ms g =
     let bytes = c.args.bytes.now in
     let is = read-refused (read_place bytes) c.new-place.result c.read.new.self c.in-Err.fault c.in-Err.ensures.value in
-    subst (λ (r : Result (List Node) PlaceFault). Gathers (one_entry c.args.start ms r).1 c.args.class × (string_bytes c.in_ok-line.line ≡ (one_entry c.args.start ms r).0)) (sym is)
-    (g, c.in_ok-line.ensures ∙ (λ i. bad_line (c.question.ensures i) (c.args.start + c.byte.ensures i)))
+    subst (λ (r : Result (List Node) PlaceFault). Gathers (one_entry c.args.start ms r).1 c.args.class × (string_bytes c.in_ok-line-in-Err.line ≡ (one_entry c.args.start ms r).0)) (sym is)
+    (g, c.in_ok-line-in-Err.ensures ∙ (λ i. bad_line (c.question.ensures i) (c.args.start + c.byte.ensures i)))

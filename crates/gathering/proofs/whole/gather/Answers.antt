@@ -1,4 +1,4 @@
-use Rattle.std.proofs.Common.{◌≡◌, ℕ, ◌+◌, ◌-◌, List, [], ◌++◌, length, string_bytes, sym, refl, ap, ◌∙◌, subst, ap₂, append-nil, arith}
+use Rattle.std.proofs.Common.{◌≡◌, ℕ, ◌-◌, List, [], ◌++◌, length, string_bytes, sym, refl, ap, ◌∙◌, subst, ap₂, append-nil, arith}
 use Rattle.std.specs.List.{between}
 use Rattle.std.proofs.lemmas.Slice.{pushed}
 use Rattle.number.specs.Faults.{told}
@@ -25,9 +25,9 @@ loop-at-preserved-in-Ok c =
     let turns = inv.1.2.0 in
     let entry = c.in-Ok.ensures in
     let one : Told = one_entry c.in-Ok.start ms (read_place (between c.in-Ok.start c.in-Ok.end input)) in
-    let goes = c.in_ok-done.ensures ms inv.1.1 in
+    let goes = c.in_ok-done-in-Ok.ensures ms inv.1.1 in
     let line : c.as_str.result.now ≡ one.0 = c.as_str.ensures.value ∙ goes.1 in
-    let text = pushed c.as_str.result.now refl c.in_ok-push_str.was c.push_str.ensures.bytes in
+    let text = pushed c.as_str.result.now refl c.in_ok-push_str-in-Ok.was c.push_str.ensures.bytes in
     let next = gathered_from (turns - 1) input c.in-Ok.end one.1 in (
       entry.inside.2,
       (
@@ -53,8 +53,8 @@ loop-at-preserved c =
     let ms = inv.1.0 in
     let turns = inv.1.2.0 in
     let line : c.as_str-in-Err.result.now ≡ bad_line (told c.in-Err.fault).0 (told c.in-Err.fault).1 =
-    c.as_str-in-Err.ensures.value ∙ c.in_ok-bad_line.ensures ∙ ap₂ bad_line c.question.ensures c.byte.ensures in
-    let text = pushed c.as_str-in-Err.result.now refl c.in_ok-push_str-2.was c.push_str-in-Err.ensures.bytes in (
+    c.as_str-in-Err.ensures.value ∙ c.in_ok-bad_line-in-Err.ensures ∙ ap₂ bad_line c.question.ensures c.byte.ensures in
+    let text = pushed c.as_str-in-Err.result.now refl c.in_ok-push_str-in-Err.was c.push_str-in-Err.ensures.bytes in (
       omega arith,
       (
         ms,
@@ -79,7 +79,7 @@ returns c =
     let ms = inv.1.0 in
     let turns = inv.1.2.0 in
     let last = string_bytes c.in_ok-rule_line.field-0 in
-    let text = pushed c.as_str-2.result.now refl c.in_ok-push_str-3.was c.push_str-2.ensures.bytes in
+    let text = pushed c.as_str-2.result.now refl c.in_ok-push_str.was c.push_str-2.ensures.bytes in
     let all : (old, ms) ≡ gathered input =
     ap (λ (l : List ℕ). (l, ms)) (sym (append-nil old)) ∙ ap (after old) (sym (from_end turns input c.loop-at.at ms c.loop-at-test.false)) ∙ inv.1.2.2 in
     subst (λ (t : Told). Ruled t out) all (ruled-after old ms last out (c.in_ok-rule_line.ensures ms inv.1.1) (text ∙ ap (λ (l : List ℕ). old ++ l) c.as_str-2.ensures.value))
