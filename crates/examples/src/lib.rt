@@ -1,5 +1,6 @@
 // Examples of every layer: some are theorems of the definitions, in one list, and the others are run as tests.
 #![tactic(auto)]
+
 ghost use Rattle.examples.specs.Examples.{examples, Hold};
 
 // The list of proved examples.
@@ -95,7 +96,7 @@ mod tests {
         assert_eq!(rt; list.push(5), Ok(()));
         assert_eq!(rt; list.push(6), Ok(()));
         assert_eq!(rt; list.push(7), Err(Full));
-        assert_eq!(rt; list.as_slice(), &[5, 6]);
+        assert_eq!(rt; list.as_slice(), [5, 6].as_slice());
         assert!(rt; list.set(1, 8));
         assert!(rt; !list.set(2, 9));
         assert_eq!(rt; list.get(1), Some(8));

@@ -1,5 +1,6 @@
 // Reads place words from standard input, gathers them, and prints what happened and the rule.
 #![tactic(auto)]
+
 use anyhow::anyhow;
 use std::env;
 use std::io::Read;

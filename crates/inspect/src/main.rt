@@ -1,5 +1,6 @@
 // Reads packed bytes from standard input and lists what they hold: numbers, or one place word.
 #![tactic(auto)]
+
 use anyhow::anyhow;
 use std::env;
 use std::io::Read;
