@@ -1,15 +1,19 @@
 -- Examples that are theorems of the definitions, in one list.
-use Rattle.std.specs.Prelude.{◌≡◌, List, [], ◌∷◌}
-use Rattle.term.specs.declared.node.Symbol.TheVariants.{Function}
+use Rattle.std.specs.Prelude.{◌≡◌, ℕ, List, [], ◌∷◌}
+use Rattle.term.specs.declared.node.Symbol.TheVariants.{Function, Positive, Negative}
 use Rattle.term.specs.Joins.{join}
-use Rattle.term.specs.Words.{Word, var, app, nil, cons}
+use Rattle.term.specs.Words.{Word, var, app, Words, nil, cons}
+use Rattle.record.specs.Reads.{clause_form}
 
 pub data Example : Type 0 where
   -- the first two words join to the third
   words_join : Word → Word → Word → Example
+  -- the packed form of the clause is these bytes
+  clause_packs : Words → List ℕ → Example
 
 abbrev pub Holds : Example → Type 0
 Holds (words_join u v w) = (join u v []).0 ≡ w
+Holds (clause_packs ls bytes) = clause_form ls ≡ bytes
 
 abbrev pub Hold : List Example → Type 0
 Hold [] = Unit {0}
@@ -37,4 +41,6 @@ examples =
     words_join (f a a) (f b b) (f X X)
     -- f(a,b) and f(b,a) join to f(X,Y)
     ∷ words_join (f a b) (f b a) (f X Y)
+    -- {p(X), -q(a)} with p 1, q 2 and a 3 is 02 02 01 00 05 01 07 00
+    ∷ clause_packs (cons (app (Positive 1) (cons X nil)) (cons (app (Negative 2) (cons (app (Function 3) nil) nil)) nil)) (2 ∷ 2 ∷ 1 ∷ 0 ∷ 5 ∷ 1 ∷ 7 ∷ 0 ∷ [])
     ∷ []

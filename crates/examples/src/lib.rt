@@ -14,8 +14,10 @@ mod tests {
     use class::{Class, Kind};
     use number::{NoRoom, NumberFault};
     use place::PlaceWord;
+    use record::Record;
     use std::process::Abort;
     use std::test::Fail;
+    use word::Layer;
 
     // A number and its form.
     const FORMS: [(u16, &[u8]); 7] = [
@@ -208,6 +210,134 @@ mod tests {
         let mut short = [9u8; 5];
         assert_eq!(rt; place.write(&mut short), Err(NoRoom));
         assert_eq!(rt; short, [9; 5]);
+        Ok(())
+    }
+
+    // What is told of an input that is no record: question, byte, literal in hand, layers.
+    fn refused(
+        rt: &impl Abort,
+        input: &[u8],
+        question: u8,
+        byte: usize,
+        literal: Option<usize>,
+        layers: &[Layer],
+    ) -> Result<(), Fail> {
+        let mut record = Record::new();
+        match record.read(input) {
+            Ok(()) => Err(Fail::new("a record was read")),
+            Err(fault) => {
+                assert_eq!(rt; fault.question(), question);
+                assert_eq!(rt; fault.byte(), byte);
+                assert_eq!(rt; fault.literal(), literal);
+                assert_eq!(rt; fault.layers(), layers);
+                assert_eq!(rt; record.nodes().len(), 0);
+                Ok(())
+            }
+        }
+    }
+
+    #[test]
+    fn record_faults_tell_all(rt: HostRuntime) -> Result<(), Fail> {
+        let number = &[Layer::Number, Layer::Record];
+        let in_literal = &[Layer::Literal, Layer::Record];
+        let in_word = &[Layer::Word, Layer::Literal, Layer::Record];
+        refused(&rt, &[], 1, 0, None, number)?;
+        refused(&rt, &[128, 0], 3, 0, None, number)?;
+        refused(&rt, &[17], 4, 0, None, &[Layer::Record])?;
+        refused(
+            &rt,
+            &[1],
+            1,
+            1,
+            Some(0),
+            &[Layer::Number, Layer::Literal, Layer::Record],
+        )?;
+        refused(
+            &rt,
+            &[2, 2, 0, 4, 1, 255],
+            1,
+            6,
+            Some(1),
+            &[Layer::Number, Layer::Word, Layer::Literal, Layer::Record],
+        )?;
+        refused(&rt, &[1, 2, 9], 5, 2, Some(0), in_literal)?;
+        refused(&rt, &[1, 2, 1, 3, 9], 5, 4, Some(0), in_word)?;
+        refused(&rt, &[1, 3, 1, 2], 7, 3, Some(0), in_word)?;
+        refused(&rt, &[2, 2, 0, 2, 0], 8, 3, Some(1), in_literal)?;
+        refused(&rt, &[0, 0], 9, 1, None, &[Layer::Record])
+    }
+
+    #[test]
+    fn a_record_has_256_nodes_at_most(rt: HostRuntime) -> Result<(), Fail> {
+        // p1 over 255 nested symbols: the last of them is a constant
+        let mut deep = [1u8; 513];
+        deep[1] = 2;
+        deep[512] = 0;
+        let mut record = Record::new();
+        record.read(&deep)?;
+        assert_eq!(rt; record.nodes().len(), 256);
+        let mut long = [1u8; 515];
+        long[1] = 2;
+        long[514] = 0;
+        refused(
+            &rt,
+            &long,
+            6,
+            513,
+            Some(0),
+            &[Layer::Word, Layer::Literal, Layer::Record],
+        )?;
+        // and a second literal after them
+        let mut two = [1u8; 515];
+        two[0] = 2;
+        two[1] = 2;
+        two[512] = 0;
+        two[513] = 4;
+        two[514] = 0;
+        refused(&rt, &two, 6, 513, Some(1), &[Layer::Literal, Layer::Record])
+    }
+
+    #[test]
+    fn records_are_listed(rt: HostRuntime) -> Result<(), Fail> {
+        lists_record(&rt, &[0], "{}\n")?;
+        lists_record(&rt, &[2, 2, 1, 0, 5, 1, 7, 0], "{p1(X0), -p2(a3)}\n")?;
+        lists_record(&rt, &[2, 8, 0, 6, 2, 0, 2], "{p4, p3(X0, X1)}\n")?;
+        lists_record(
+            &rt,
+            &[1, 3, 1, 2],
+            "fault 7 at byte 3 of literal 0 in word, literal, record: a variable is not the next unused one\n",
+        )?;
+        lists_record(
+            &rt,
+            &[17],
+            "fault 4 at byte 0 in record: there are more than 16 literals\n",
+        )?;
+        lists_record(
+            &rt,
+            &[2, 2, 0, 2, 0],
+            "fault 8 at byte 3 of literal 1 in literal, record: the literal repeats an earlier one\n",
+        )
+    }
+
+    fn lists_record(rt: &(impl Abort + AllocGlobal), input: &[u8], text: &str) -> Result<(), Fail> {
+        let listing = listing::list_record(rt.alloc(), input)?;
+        assert_eq!(rt; listing.text.as_str(), text);
+        Ok(())
+    }
+
+    #[test]
+    fn a_record_is_written_as_it_was_read(rt: HostRuntime) -> Result<(), Fail> {
+        let mut record = Record::new();
+        record.read(&[2, 2, 1, 0, 5, 1, 7, 0])?;
+        let mut out = [9u8; 9];
+        assert_eq!(rt; record.write(&mut out), Ok(8));
+        assert_eq!(rt; out, [2, 2, 1, 0, 5, 1, 7, 0, 9]);
+        let mut short = [9u8; 7];
+        assert_eq!(rt; record.write(&mut short), Err(NoRoom));
+        assert_eq!(rt; short, [9; 7]);
+        assert!(rt; record.read(&[2, 2, 0, 2, 0]).is_err());
+        assert_eq!(rt; record.write(&mut out), Ok(8));
+        assert_eq!(rt; out, [2, 2, 1, 0, 5, 1, 7, 0, 9]);
         Ok(())
     }
 

@@ -1,3 +1,4 @@
 pub mod Turns
 pub mod Truths
 pub mod Showing
+pub mod Separated

@@ -1,5 +1,5 @@
--- Words in legible form.
-use Rattle.std.specs.Prelude.{ℕ, zero, suc, List, [], ◌++◌, codes, decimal}
+-- Words and clauses in legible form.
+use Rattle.std.specs.Prelude.{ℕ, zero, suc, List, [], ◌∷◌, ◌++◌, codes, decimal}
 use Rattle.term.specs.declared.node.Node.{Node}
 use Rattle.term.specs.declared.node.Node.TheVariants.{Variable, Applied}
 use Rattle.term.specs.declared.node.Symbol.{Symbol}
@@ -35,3 +35,20 @@ unfoldable mutual
   pub shown_from : (n : ℕ) → Words → List ℕ
   shown_from n nil = closing n
   shown_from n (cons u us) = opening n ++ (shown u ++ shown_from (suc n) us)
+
+-- what stands before the text in place n of several, and all of them from place n on
+abbrev pub separator : ℕ → List ℕ
+separator zero = []
+separator (suc n) = codes ", "
+
+unfoldable pub separated : {X : Type 0} → (X → List ℕ) → (n : ℕ) → List X → List ℕ
+separated text n [] = []
+separated text n (x ∷ xs) = separator n ++ (text x ++ separated text (suc n) xs)
+
+-- a clause: its literals in braces
+abbrev pub each : Words → List Word
+each nil = []
+each (cons l ls) = l ∷ each ls
+
+unfoldable pub shown_clause : Words → List ℕ
+shown_clause ls = codes "{" ++ (separated shown 0 (each ls) ++ codes "}")

@@ -18,7 +18,12 @@ pub fn show_place(heap: Global, place: &PlaceWord) -> Result<String, AllocError>
 }
 
 // Puts the word at `i` at the end of the text, and answers where the word ends.
-fn show_word(heap: Global, text: &mut String, nodes: &[Node], i: usize) -> Result<usize, AllocError>
+pub(super) fn show_word(
+    heap: Global,
+    text: &mut String,
+    nodes: &[Node],
+    i: usize,
+) -> Result<usize, AllocError>
     requires { Whole nodes.now × (i < length nodes.now) }
     ensures { IfOk result (λ j. Next nodes.now i j × (string_bytes text.new ≡ string_bytes text.old ++ shown (word_at nodes.now i))) }
 {

@@ -1,22 +1,19 @@
 -- The packed form of a clause is read as this clause.
-use Rattle.std.proofs.Common.{◌≡◌, ℕ, suc, ◌+◌, ◌-◌, ◌*◌, ◌/◌, ◌%◌, ◌<◌, ◌≤◌, max, true, false, ltb, leb, List, [], ◌∷◌, ◌++◌, length, drop, Ok, sym, refl, ap, ◌∙◌, subst, append_assoc, append-nil, arith, length-append}
+use Rattle.std.proofs.Common.{◌≡◌, ℕ, suc, ◌+◌, ◌-◌, ◌*◌, ◌/◌, ◌%◌, ◌<◌, ◌≤◌, max, true, false, List, [], ◌∷◌, ◌++◌, length, drop, Ok, sym, refl, ap, ◌∙◌, subst, append_assoc, append-nil, arith, length-append}
 use Rattle.std.proofs.lemmas.Bool.{eq-eqb, ne_eqb, le-leb, leb-true, lt-ltb, le-ltb, false≢true}
 use Rattle.number.specs.Forms.{form}
 use Rattle.number.specs.Reads.{read_number}
-use Rattle.term.specs.Coding.{code, codes, decode}
-use Rattle.term.specs.Lawful.{lawful, Numbered, stood}
+use Rattle.term.specs.Coding.{code, codes}
+use Rattle.term.specs.Lawful.{Numbered, stood}
 use Rattle.term.specs.Words.{Word, var, app, Words, nil, cons, ◌+++◌, len, size, sizes, vars, varss}
-use Rattle.term.specs.declared.node.Node.{Node}
 use Rattle.term.specs.declared.node.Node.TheVariants.{Applied}
 use Rattle.term.specs.declared.node.Symbol.{Symbol}
 use Rattle.term.specs.declared.node.Symbol.TheVariants.{Function, Positive, Negative}
 use Rattle.term.proofs.Codings.{all_words, decode-all, length-codes}
 use Rattle.term.proofs.Laws.{numbered-parts, stood-more, lawful-all}
 use Rattle.word.specs.Packed.{packed_symbol, packed_node, packed, symbol_number, Writable}
-use Rattle.word.specs.Reads.{read_words}
 use Rattle.word.proofs.Back.{reads_at, beyond, reads-packed}
 use Rattle.word.proofs.Laws.{packed_none, packed_more, packed-append, writable-append, lawful-writable}
-use Rattle.record.specs.declared.literal.Head.{Head}
 use Rattle.record.specs.Clauses.{predicative, Literal, Literals, variables, stands, distinct, Clause}
 use Rattle.record.specs.Reads.{predicate_of, head_at, read_literal, read_literals, read_record, clause_form}
 use Rattle.record.proofs.Tests.{varss-push, order-push}

@@ -1,5 +1,5 @@
 -- Reading and writing the packed form of records.
-use Rattle.std.proofs.Common.{◌≡◌, ℕ, zero, suc, ◌+◌, ◌-◌, ◌<◌, ◌≤◌, true, false, ltb, leb, List, [], ◌∷◌, ◌++◌, length, get_or, take, drop, Ok, Err, Result, sym, refl, ap, ◌∙◌, subst, ap₂, append_assoc, arith, length-append}
+use Rattle.std.proofs.Common.{◌≡◌, ℕ, zero, suc, ◌+◌, ◌-◌, ◌<◌, ◌≤◌, List, ◌++◌, length, get_or, take, drop, Ok, Err, Result, sym, refl, ap, ◌∙◌, subst, ap₂, append_assoc, arith, length-append}
 use Rattle.std.specs.List.{between}
 use Rattle.std.proofs.lemmas.List.Edits.{between_none}
 use Rattle.std.proofs.lemmas.List.{take_all, drop_at, length-drop, length-take-le}
@@ -8,24 +8,24 @@ use Rattle.number.specs.declared.fault.NumberFault.{NumberFault}
 use Rattle.number.specs.declared.fault.NoRoom.{NoRoom}
 use Rattle.number.specs.Forms.{form}
 use Rattle.number.specs.Reads.{read_number}
-use Rattle.number.specs.Writes.{Wrote}
+use Rattle.number.specs.Writes as numbers
 use Rattle.number.proofs.Answers.{clash, ok_same}
 use Rattle.number.proofs.Puts.{puts-is}
 use Rattle.term.specs.Coding.{code, codes}
-use Rattle.term.specs.Words.{Word, Words, nil, cons, ◌+++◌, len}
+use Rattle.term.specs.Words.{Words, nil, cons, ◌+++◌, len}
 use Rattle.term.proofs.Codings.{all_words}
 use Rattle.word.specs.Packed.{packed}
-use Rattle.word.proofs.Exact.{number-stands}
+use Rattle.word.specs.Writes.{Wrote}
 use Rattle.word.proofs.Laws.{packed_none, packed-append, between_join}
-use Rattle.word.proofs.Puts.{wrote-puts}
+use Rattle.word.proofs.Puts.{number-puts}
 use Rattle.word.proofs.Turns.{then-made}
 use Rattle.record.specs.declared.clause.Record.{Record}
 use Rattle.record.specs.declared.fault.RecordFault.{RecordFault}
 use Rattle.record.specs.declared.fault.RecordFault.TheVariants.{Number, Literals, Left}
-use Rattle.record.specs.Clauses.{Clause}
 use Rattle.record.specs.Records.{literals}
 use Rattle.record.specs.Reads.{read_literal, in_literal, read_literals, Builds, read_record, clause_form, Reads, Exactly}
 use Rattle.record.proofs.Held.{held}
+use Rattle.record.proofs.Words.{number-stands}
 use Rattle.record.proofs.Literals.{literal-added}
 use Rattle.record.proofs.Places.{push-more}
 use Rattle.record.proofs.Back.{reads-back}
@@ -146,22 +146,23 @@ pub read-refused : (R : Result Words RecordFault) (before after : Record) (fault
 read-refused (Ok ls) before after fault r = absurd (clash fault tt r.0)
 read-refused (Err d) before after fault r = let h = r.0 in let e : fault ≡ d = cc in ap Err (sym e)
 
--- bytes written after others that were left out, and then those
-module _ (first others before mid : List ℕ) (at : ℕ) (start : at ≡ length first) where
-  long : length (first ++ others) ≡ at + length others
-  long = length-append first others ∙ ap (λ (n : ℕ). n + length others) (sym start)
+-- bytes written after a number that was left out, and then the number
+module _ (count : ℕ) (others before mid : List ℕ) (at : ℕ) (start : at ≡ length (form count)) where
+  long : length (form count ++ others) ≡ at + length others
+  long = length-append (form count) others ∙ ap (λ (n : ℕ). n + length others) (sym start)
 
-  pub no_room : (e : NoRoom) → Wrote others at before (Err e) mid → Wrote (first ++ others) 0 before (Err e) mid
+  pub no_room : (e : NoRoom) → Wrote others at before (Err e) mid → Wrote (form count ++ others) 0 before (Err e) mid
   no_room e w = (omega (arith, w.0, long), w.1)
 
-  pub both-wrote : (end : ℕ) → Wrote others at before (Ok end) mid → (r : Result ℕ NoRoom) (after : List ℕ) → Wrote first 0 mid r after → Wrote (first ++ others) 0 before (Ok end) after
+  pub both-wrote : (end : ℕ) → Wrote others at before (Ok end) mid → (r : Result ℕ NoRoom) (after : List ℕ) → numbers.Wrote count 0 mid r after → Wrote (form count ++ others) 0 before (Ok end) after
   both-wrote end w r after v =
+      let first = form count in
       let size : length (take at before) ≡ at = length-take-le at before (omega (arith, w.0, w.1)) in
       let same : length mid ≡ length before =
       ap length w.2 ∙ length-append (take at before) (others ++ drop end before) ∙ omega (arith, size, length-append others (drop end before), length-drop end before, w.0, w.1) in
       let fits : 0 + length first ≤ length mid = omega (arith, w.0, w.1) in
       let begins : 0 + length first ≡ at = omega arith in
-      let put = (wrote-puts first 0 mid r after v fits).1 ∙ puts-is mid 0 first fits in
+      let put = (number-puts count 0 mid r after v fits).1 ∙ puts-is mid 0 first fits in
       let rest : drop (0 + length first) mid ≡ others ++ drop end before =
       ap₂ drop begins w.2 ∙ drop_at (take at before) (others ++ drop end before) at size in
       (omega (arith, w.0, long), w.1, put ∙ ap (λ (l : List ℕ). first ++ l) rest ∙ sym (append_assoc first others (drop end before)))

@@ -1,12 +1,12 @@
 -- One literal more in a list of nodes.
-use Rattle.std.proofs.Common.{◌≡◌, ℕ, suc, ◌+◌, ◌-◌, ◌<◌, ◌≤◌, Bool, true, false, List, [], ◌∷◌, ◌++◌, length, get_or, take, Ok, Err, Result, sym, refl, ap, ◌∙◌, subst, ap₂, append_assoc, append-nil, arith, length-append}
+use Rattle.std.proofs.Common.{◌≡◌, ℕ, suc, ◌+◌, ◌-◌, ◌<◌, Bool, true, false, List, [], ◌∷◌, ◌++◌, length, get_or, take, Ok, Err, Result, sym, refl, ap, ◌∙◌, subst, ap₂, append_assoc, append-nil, arith, length-append}
 use Rattle.std.proofs.lemmas.List.{take_all, take_at, drop_at, length_push}
 use Rattle.bounded.specs.declared.list.Full.{Full}
 use Rattle.bounded.specs.Elems.{Pushed}
 use Rattle.bounded.proofs.Rooms.{pushed_room}
 use Rattle.term.specs.Coding.{code, codes, hd, decode, Whole, word_at}
 use Rattle.term.specs.Lawful.{lawful, stood}
-use Rattle.term.specs.Words.{Word, app, Words, nil, cons, ◌+++◌, len, size, sizes, vars, varss}
+use Rattle.term.specs.Words.{Word, app, Words, nil, cons, ◌+++◌, size, sizes, vars, varss}
 use Rattle.term.specs.declared.node.Node.{Node}
 use Rattle.term.specs.declared.node.Node.TheVariants.{Applied}
 use Rattle.term.proofs.Codings.{code-decode, codes-more, decode-all, decode-one, length-code, length-codes, whole-all}
@@ -16,16 +16,15 @@ use Rattle.word.specs.declared.fault.WordFault.{WordFault}
 use Rattle.word.specs.Packed.{seen_after}
 use Rattle.word.specs.Reads.{read_words, Gives}
 use Rattle.word.proofs.Exact.{words-added}
-use Rattle.word.proofs.Laws.{seen_all}
-use Rattle.word.proofs.Turns.{gave-fault, gave-words, words-alone, fault-alone}
 use Rattle.record.specs.declared.fault.LiteralFault.{LiteralFault}
 use Rattle.record.specs.declared.fault.LiteralFault.TheVariants.{Word as InWord, Repeated}
 use Rattle.record.specs.declared.literal.Head.{Head}
 use Rattle.record.specs.Clauses.{variables, stands, begins}
 use Rattle.record.specs.Reads.{words_from, Inside, head_at, differs, read_literal, Grows}
+use Rattle.record.proofs.Words.{gave-fault, gave-words, words-alone, fault-alone, seen_all}
 use Rattle.record.proofs.Literals.{head-room}
 use Rattle.record.proofs.Tests.{varss-push}
-use Rattle.record.proofs.Places.{sizes-push, inside-begins, from-begins}
+use Rattle.record.proofs.Places.{inside-begins, from-begins}
 
 -- the answers
 pub grows-refused : (R : Result (Word × ℕ) LiteralFault) (old after : List Node) (fault : LiteralFault) → R ≡ Err fault → take (length old) after ≡ old → Grows R old (Err fault) after

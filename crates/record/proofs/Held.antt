@@ -1,5 +1,5 @@
 -- What is known of every record.
-use Rattle.std.proofs.Common.{◌≡◌, ◌≤◌, length, sym, ap, ◌∙◌, arith}
+use Rattle.std.proofs.Common.{◌≡◌, length, ap, arith}
 use Rattle.std.proofs.lemmas.List.{length-take}
 use Rattle.bounded.specs.Elems.{elems}
 use Rattle.term.specs.Coding.{codes}

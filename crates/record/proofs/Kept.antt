@@ -1,8 +1,8 @@
 -- A record stays one when a literal comes last.
-use Rattle.std.proofs.Common.{◌≡◌, ℕ, ◌+◌, ◌<◌, true, false, List, [], ◌∷◌, ◌++◌, length, get_or, take, is_ok, Ok, Err, Result, sym, refl, ap, ◌∙◌, subst, ap₂, arith}
+use Rattle.std.proofs.Common.{◌≡◌, ℕ, ◌+◌, ◌<◌, true, List, [], ◌∷◌, ◌++◌, length, get_or, is_ok, Ok, Err, Result, sym, refl, ap, ◌∙◌, ap₂, arith}
 use Rattle.std.proofs.lemmas.Bool.{true≢false}
 use Rattle.bounded.specs.Elems.{elems}
-use Rattle.term.specs.Coding.{code, decode, Whole}
+use Rattle.term.specs.Coding.{decode, Whole}
 use Rattle.term.specs.Words.{Word, Words, nil, cons, ◌+++◌, sizes}
 use Rattle.term.specs.declared.node.Node.{Node}
 use Rattle.record.specs.declared.clause.Record.{Record}

@@ -1,6 +1,7 @@
 pub mod Tests
 pub mod Places
 pub mod Held
+pub mod Words
 pub mod Literals
 pub mod Grown
 pub mod Kept

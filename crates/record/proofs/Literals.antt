@@ -1,13 +1,13 @@
 -- What is read as a literal is one, and its packed form is just the bytes read.
-use Rattle.std.proofs.Common.{◌≡◌, ℕ, suc, ◌+◌, ◌-◌, ◌*◌, ◌/◌, ◌%◌, ◌<◌, ◌≤◌, Bool, true, false, cond, eqb, ltb, leb, List, [], ◌∷◌, ◌++◌, length, get_or, Ok, Err, Result, sym, refl, ap, ◌∙◌, subst, ap₂, inl, inr, append_assoc, arith}
+use Rattle.std.proofs.Common.{◌≡◌, ℕ, suc, ◌+◌, ◌-◌, ◌*◌, ◌/◌, ◌%◌, ◌<◌, ◌≤◌, true, false, eqb, ltb, leb, List, [], ◌∷◌, ◌++◌, length, get_or, Ok, sym, ap, ◌∙◌, subst, ap₂, inl, inr, arith}
 use Rattle.std.specs.List.{between}
 use Rattle.std.proofs.lemmas.Bool.{cond_both, leb-true, ltb-true, le-leb, eqb-true, eqb-false}
 use Rattle.number.specs.Forms.{form}
 use Rattle.number.specs.Reads.{read_number}
 use Rattle.number.proofs.Answers.{clash, ok_same}
-use Rattle.term.specs.Coding.{code, codes, decode}
-use Rattle.term.specs.Lawful.{lawful, Numbered, stood}
-use Rattle.term.specs.Words.{Word, app, Words, len, size, sizes, vars, varss}
+use Rattle.term.specs.Coding.{code, decode}
+use Rattle.term.specs.Lawful.{lawful, Numbered}
+use Rattle.term.specs.Words.{Word, app, Words, size, sizes, vars}
 use Rattle.term.specs.declared.node.Node.{Node}
 use Rattle.term.specs.declared.node.Node.TheVariants.{Applied}
 use Rattle.term.specs.declared.node.Symbol.{Symbol}
@@ -16,7 +16,7 @@ use Rattle.term.proofs.Codings.{code-decode, length-codes}
 use Rattle.term.proofs.Laws.{lawful-stand}
 use Rattle.word.specs.Packed.{packed_symbol, packed_node, packed}
 use Rattle.word.specs.Reads.{read_words}
-use Rattle.word.proofs.Exact.{number-stands, words-added}
+use Rattle.word.proofs.Exact.{words-added}
 use Rattle.word.proofs.Laws.{packed_more, between_join}
 use Rattle.word.proofs.Turns.{then-made, picked}
 use Rattle.record.specs.declared.fault.LiteralFault.{LiteralFault}
@@ -24,6 +24,7 @@ use Rattle.record.specs.declared.fault.LiteralFault.TheVariants.{Number as InNum
 use Rattle.record.specs.declared.literal.Head.{Head}
 use Rattle.record.specs.Clauses.{predicative, Literal, variables, stands}
 use Rattle.record.specs.Reads.{predicate_of, head_at, read_literal}
+use Rattle.record.proofs.Words.{number-stands}
 
 -- the predicate of a first number: its form is that number's
 pub predicate-number : (value : ℕ) → packed_symbol (predicate_of value) ≡ value

@@ -1,5 +1,5 @@
 -- Reading a record: the questions, literal by literal, in the order in which they are asked.
-use Rattle.std.specs.Prelude.{◌≡◌, ℕ, zero, suc, ◌-◌, ◌/◌, ◌%◌, ◌<◌, ◌≤◌, cond, List, [], ◌∷◌, ◌++◌, length, take, Some, Ok, Err, Result, ◌==◌, ◌≢◌, nat_le, nat_lt}
+use Rattle.std.specs.Prelude.{◌≡◌, ℕ, zero, suc, ◌-◌, ◌/◌, ◌%◌, ◌<◌, cond, List, [], ◌∷◌, ◌++◌, length, take, Ok, Err, Result, ◌==◌, ◌≢◌, nat_le, nat_lt}
 use Rattle.number.specs.Forms.{form}
 use Rattle.number.specs.Reads.{read_number}
 use Rattle.term.specs.Coding.{code, codes, decode, word_at}
@@ -11,7 +11,6 @@ use Rattle.word.specs.Packed.{packed}
 use Rattle.word.specs.Reads.{read_words}
 use Rattle.word.specs.Then.{then}
 use Rattle.record.specs.declared.clause.Record.{Record}
-use Rattle.record.specs.declared.fault.InLiteral.{InLiteral}
 use Rattle.record.specs.declared.fault.LiteralFault.{LiteralFault}
 use Rattle.record.specs.declared.fault.LiteralFault.TheVariants.{Number as InNumber, Word as InWord, Places, Nodes, Repeated}
 use Rattle.record.specs.declared.fault.RecordFault.{RecordFault}

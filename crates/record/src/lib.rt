@@ -1,5 +1,6 @@
 // Records: the clauses of signed facts that spoiled mounts leave, their type with its invariant, and their packed form.
 #![tactic(auto)]
+
 mod clause;
 mod fault;
 mod literal;

@@ -1,7 +1,11 @@
 use Rattle.std.proofs.Common.{refl}
+use lib.Count.{count_leading_zeros}
+use Rattle.number.specs.Forms.{form}
+use Rattle.number.specs.Groups.{groups}
 use Rattle.term.specs.Joins.{both_decided, Symbol-discrete, alike_decided, same_decided}
+use Rattle.word.specs.Packed.{packed}
 use Rattle.examples.proofs.examples_hold.Goals as goal
 
 pub returns : goal.returns
-unfolding both_decided Symbol-discrete alike_decided same_decided
-returns c = (refl, (refl, tt))
+unfolding both_decided Symbol-discrete alike_decided same_decided form groups count_leading_zeros packed
+returns c = (refl, (refl, (refl, tt)))

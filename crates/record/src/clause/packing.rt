@@ -1,8 +1,8 @@
 // The packed form of records.
 ghost use Rattle.std.specs.Prelude.{◌≡◌, ◌<◌, ◌≤◌, Ok};
-ghost use Rattle.number.specs.Writes.{Wrote};
 ghost use Rattle.term.specs.Words.{nil, len};
 ghost use Rattle.word.specs.Then.{then};
+ghost use Rattle.word.specs.Writes.{Wrote};
 ghost use Rattle.record.specs.Clauses.{variables};
 ghost use Rattle.record.specs.Records.{literals};
 ghost use Rattle.record.specs.Reads.{read_literal, Adds, in_literal, read_literals, Builds, read_record, clause_form, Reads, Exactly};

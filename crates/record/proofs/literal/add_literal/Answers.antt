@@ -14,7 +14,7 @@ returns-in_err-head c =
 
 pub returns-in_err-next : goal.returns-in_err-next
 returns-in_err-next c =
-    let p = err_from_is_err_and c.from_residual-in-err-next.result c.from_residual-in-err-next.ensures.1 in
+    let p = err_from_is_err_and c.from_residual-in_err-next.result c.from_residual-in_err-next.ensures.1 in
     rw (p.1, p.2)
     (literal-refused (elems c.args.nodes.now) c.requires.whole c.args.input.now c.args.at (λ i. (c.type_inv.input i).fits) c.len-start.result c.len-start.ensures.value c.read_head.result c.read_head.ensures
     c.in_ok-head.head c.in_ok-head.was c.push.result (elems c.push.new.self) c.push.ensures c.args.seen c.requires.counted (elems c.read_words.new.nodes) c.in_err-next.field-0.0 c.in_err-next.ensures.value)

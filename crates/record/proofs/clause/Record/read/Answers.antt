@@ -16,7 +16,7 @@ returns-then-count-gt-LITERALS c =
 
 pub returns-in_err-record : goal.returns-in_err-record
 returns-in_err-record c =
-    let p = err_from_is_err_and c.from_residual-in-err-record.result c.from_residual-in-err-record.ensures.1 in
+    let p = err_from_is_err_and c.from_residual-in_err-record.result c.from_residual-in_err-record.ensures.1 in
     let a = answer-refused c.args.input.now (λ i. (c.type_inv.input i).fits) c.args.self.now c.in_ok-count.count c.in_ok-count.next (sym c.read.ensures.value ∙ c.in_ok-count.was) c.in_err-record.field-0.0 (omega arith) c.in_err-record.ensures in
     rw (p.1, p.2) (record { value = a.value; exact = a.exact })
 

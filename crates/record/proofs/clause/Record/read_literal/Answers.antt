@@ -16,7 +16,7 @@ invariant_of-self c =
     let room : length (elems r.starts) < 16 = omega (arith, ap length r.begun, length-begins 0 (literals r), c.requires.room) in
     let pushed = pushed_room 16 c.len-start.result (elems r.starts) c.push.result (elems c.push.new.self) c.push.ensures room ∙ ap (λ (n : ℕ). elems r.starts ++ n ∷ []) c.len-start.ensures.value in
     let k = grown-invariant r c.args.input.now (λ i. (c.type_inv.input i).fits) c.args.at (read_literal (literals r) c.args.input.now c.args.at) refl c.add_literal-answer.result (elems c.add_literal-answer.new.nodes) c.add_literal-answer.ensures (sym c.if-is_ok.ensures.value) (elems c.push.new.self) pushed in
-    (k.whole-nodes, (k.clause, (k.apart, (k.begun, tt))))
+    record { whole = k.whole-nodes; clause = k.clause; apart = k.apart; begun = k.begun }
 
 pub returns-then-is_ok : goal.returns-then-is_ok
 returns-then-is_ok c =

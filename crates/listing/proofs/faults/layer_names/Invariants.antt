@@ -1,0 +1,8 @@
+use Rattle.std.proofs.Common.{◌≡◌, ◌++◌, drop, string_bytes}
+use Rattle.listing.specs.PlaceLines.{layer_name, layer_names}
+use Rattle.listing.specs.Shown.{separated}
+use Rattle.listing.proofs.faults.layer_names.Given as goal
+
+-- what is still to be added makes the text whole
+abbrev pub invariant-loop-k : goal.invariant-loop-k
+invariant-loop-k l = string_bytes l.text ++ separated layer_name l.k (drop l.k l.layers) ≡ layer_names l.layers

@@ -1,0 +1,91 @@
+// Records in legible form, as {p1(X0), -q2(a3)}, and the listing of one.
+ghost use Rattle.std.specs.Prelude.{◌≡◌, IfOk, string_bytes};
+ghost use Rattle.record.specs.Reads.{read_record};
+ghost use Rattle.record.specs.Records.{literals};
+ghost use Rattle.listing.specs.RecordLines.{literal_sentence, record_sentence, record_fault_line, record_listed};
+ghost use Rattle.listing.specs.Shown.{shown_clause};
+
+use super::Listing;
+use super::faults::{layered_line, separator, word_sentence};
+use super::numbers::sentence;
+use super::words::show_word;
+use record::{LiteralFault, Record, RecordFault};
+use std::alloc::{AllocError, Global};
+
+// Lists the record whose packed form the input is.
+pub fn list_record(heap: Global, input: &[u8]) -> Result<Listing<RecordFault>, AllocError>
+    ensures { IfOk result (λ l. (string_bytes l.text, l.fault) ≡ record_listed (read_record input.now)) }
+{
+    let mut record = Record::new();
+    match record.read(input) {
+        Ok(()) => {
+            let mut text = show_record(heap, &record)?;
+            text.push_str("\n")?;
+            Ok(Listing { text, fault: None })
+        }
+        Err(fault) => {
+            let text = record_fault_line(heap, &fault)?;
+            Ok(Listing {
+                text,
+                fault: Some(fault),
+            })
+        }
+    }
+}
+
+// A record in legible form.
+pub fn show_record(heap: Global, clause: &Record) -> Result<String, AllocError>
+    ensures { IfOk result (λ s. string_bytes s ≡ shown_clause (literals clause.now)) }
+{
+    let nodes = clause.nodes();
+    let starts = clause.starts();
+    let mut text = String::new(heap);
+    text.push_str("{")?;
+    for k in 0..starts.len() {
+        text.push_str(separator(k))?;
+        show_word(heap, &mut text, nodes, starts[k])?;
+    }
+    text.push_str("}")?;
+    Ok(text)
+}
+
+// The line of a fault.
+fn record_fault_line(heap: Global, fault: &RecordFault) -> Result<String, AllocError>
+    ensures { IfOk result (λ s. string_bytes s ≡ record_fault_line fault.now) }
+{
+    let why = record_sentence(fault);
+    layered_line(
+        heap,
+        fault.question(),
+        fault.byte(),
+        fault.literal(),
+        fault.layers(),
+        why,
+    )
+}
+
+// What is wrong, in words.
+fn record_sentence(fault: &RecordFault) -> &'static str
+    ensures { result.now ≡ record_sentence fault.now }
+{
+    match fault {
+        RecordFault::Number(number) => sentence(number),
+        RecordFault::Literals { first: _ } => "there are more than 16 literals",
+        RecordFault::Literal(place) => literal_sentence(&place.fault),
+        RecordFault::Left { first: _ } => "bytes are left over",
+    }
+}
+
+// What is wrong with a literal, in words.
+fn literal_sentence(fault: &LiteralFault) -> &'static str
+    ensures { result.now ≡ literal_sentence fault.now }
+{
+    match fault {
+        LiteralFault::Number(number) => sentence(number),
+        LiteralFault::Word(word) => word_sentence(word),
+        LiteralFault::Places { first: _ } => "a predicate has more than 8 places",
+        LiteralFault::Nodes { first: _ } =>
+            "there are more nodes than the limit (64 in a place word, 256 in a record)",
+        LiteralFault::Repeated { first: _ } => "the literal repeats an earlier one",
+    }
+}

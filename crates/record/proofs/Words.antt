@@ -1,0 +1,101 @@
+-- Words read after others, and what stands where a number is read.
+use Rattle.std.proofs.Common.{◌≡◌, ℕ, zero, suc, ◌+◌, ◌<◌, ◌≤◌, List, [], ◌∷◌, ◌++◌, length, get_or, Ok, Err, Result, sym, refl, ap, ◌∙◌, append_assoc, append-nil}
+use Rattle.std.specs.List.{between}
+use Rattle.number.specs.Forms.{form}
+use Rattle.number.specs.Reads.{read_number}
+use Rattle.number.proofs.Answers.{clash, ok_same}
+use Rattle.number.proofs.Exact.{exactly, again}
+use Rattle.term.specs.Coding.{code, codes}
+use Rattle.term.specs.Lawful.{stood}
+use Rattle.term.specs.Words.{Word, var, app, Words, nil, cons, vars, varss}
+use Rattle.term.specs.declared.node.Node.{Node}
+use Rattle.term.proofs.Laws.{stood-more}
+use Rattle.word.specs.declared.fault.WordFault.{WordFault}
+use Rattle.word.specs.declared.fault.WordFault.TheVariants.{Number}
+use Rattle.word.specs.Packed.{seen_after}
+use Rattle.word.specs.Reads.{node_at, read_words, Gives}
+use Rattle.word.specs.Then.{then, and_then}
+use Rattle.word.proofs.Laws.{seen_none}
+
+-- the number that stands somewhere
+pub number-stands : (input : List ℕ) (at : ℕ) → ((i : ℕ) → get_or input i 0 < 256) → (p : ℕ × ℕ) → read_number input at ≡ Ok p
+    → (at < p.1) × (p.1 ≤ length input) × (p.0 ≤ 65535) × (between at p.1 input ≡ form p.0)
+number-stands input at bytes p e =
+    let x = exactly input at bytes (Ok p) (sym e) in
+    (x.0, x.1, x.2.range, again input at (Ok p) x)
+
+-- what an answer says of the definition
+pub gave-fault : (R : Result (List Node × ℕ × ℕ) WordFault) (before after : List Node) (fault : WordFault) → Gives R before (Err fault) after → (R ≡ Err fault) × (after ≡ before)
+gave-fault (Ok p) before after fault g = absurd (clash fault (p.1, p.2) g.0)
+gave-fault (Err d) before after fault g = let h = g.0 in let e : fault ≡ d = cc in (ap Err (sym e), g.1)
+
+pub gave-words : (R : Result (List Node × ℕ × ℕ) WordFault) (before after : List Node) (end seen : ℕ) → Gives R before (Ok (end, seen)) after → R ≡ Ok (after, end, seen)
+gave-words (Ok p) before after end seen g =
+    let e : (p.1, p.2) ≡ (end, seen) = sym (ok_same (end, seen) (p.1, p.2) g.0) in
+    λ i. Ok (sym g.1 i, (e i).0, (e i).1)
+gave-words (Err d) before after end seen g = absurd (clash d (end, seen) (sym g.0))
+
+-- nodes that stand before the words do not matter
+abbrev pub fronted : List Node → Result (List Node × ℕ × ℕ) WordFault → Result (List Node × ℕ × ℕ) WordFault
+fronted front (Ok p) = Ok (front ++ p.0, p.1, p.2)
+fronted front (Err fault) = Err fault
+
+then-fronted : {X E : Type 0} (front : List Node) (f : E → WordFault) (r : Result X E) (next on : X → Result (List Node × ℕ × ℕ) WordFault) → ((x : X) → on x ≡ fronted front (next x))
+    → then f r on ≡ fronted front (then f r next)
+then-fronted front f (Ok x) next on h = h x
+then-fronted front f (Err e) next on h = refl
+
+and_then-fronted : {X : Type 0} (front : List Node) (r : Result X WordFault) (next on : X → Result (List Node × ℕ × ℕ) WordFault) → ((x : X) → on x ≡ fronted front (next x))
+    → and_then r on ≡ fronted front (and_then r next)
+and_then-fronted front (Ok x) next on h = h x
+and_then-fronted front (Err e) next on h = refl
+
+words-fronted : (need room seen : ℕ) (input : List ℕ) (at : ℕ) (front acc : List Node) → read_words need room seen input at (front ++ acc) ≡ fronted front (read_words need room seen input at acc)
+unfolding read_words
+words-fronted zero room seen input at front acc = refl
+words-fronted (suc need) zero seen input at front acc = then-fronted front Number (read_number input at) _ _ (λ _. refl)
+words-fronted (suc need) (suc room) seen input at front acc =
+    then-fronted front Number (read_number input at) _ _
+    (λ p. and_then-fronted front (node_at seen input at p.0 p.1) _ _
+    (λ r.
+    ap (read_words (need + r.places) room r.seen input r.next) (append_assoc front acc (r.node ∷ []))
+    ∙ words-fronted (need + r.places) room r.seen input r.next front (acc ++ r.node ∷ [])))
+
+-- words read after others, as words read alone
+pub words-alone : (need room seen : ℕ) (input : List ℕ) (at : ℕ) (front after : List Node) (to new : ℕ) → read_words need room seen input at front ≡ Ok (after, to, new)
+    → (nodes : List Node) × (read_words need room seen input at [] ≡ Ok (nodes, to, new)) × (after ≡ front ++ nodes)
+words-alone need room seen input at front after to new e =
+    unfronted front (read_words need room seen input at []) (sym (words-fronted need room seen input at front []) ∙ ap (read_words need room seen input at) (append-nil front) ∙ e)
+  where
+    unfronted : (front : List Node) (R : Result (List Node × ℕ × ℕ) WordFault) → fronted front R ≡ Ok (after, to, new) → (nodes : List Node) × (R ≡ Ok (nodes, to, new)) × (after ≡ front ++ nodes)
+    unfronted front (Ok p) h =
+        let same = ok_same (front ++ p.0, p.1, p.2) (after, to, new) h in
+        (p.0, λ i. Ok (p.0, (same i).1, (same i).2), λ i. (sym same i).0)
+    unfronted front (Err fault) h = absurd (clash fault (after, to, new) h)
+
+pub fault-alone : (need room seen : ℕ) (input : List ℕ) (at : ℕ) (front : List Node) (fault : WordFault) → read_words need room seen input at front ≡ Err fault → read_words need room seen input at [] ≡ Err fault
+fault-alone need room seen input at front fault e =
+    unfronted (read_words need room seen input at []) (sym (words-fronted need room seen input at front []) ∙ ap (read_words need room seen input at) (append-nil front) ∙ e)
+  where
+    unfronted : (R : Result (List Node × ℕ × ℕ) WordFault) → fronted front R ≡ Err fault → R ≡ Err fault
+    unfronted (Ok p) h = absurd (clash fault (front ++ p.0, p.1, p.2) (sym h))
+    unfronted (Err d) h = h
+
+-- the variables that have stood are those of the words
+mutual
+  unfolding seen_after
+
+  seen-code : (u : Word) (nodes : List Node) (seen : ℕ) → seen_after (code u ++ nodes) seen ≡ seen_after nodes (stood seen (vars u))
+  seen-code (var x) nodes seen = refl
+  seen-code (app s us) nodes seen = seen-codes us nodes seen
+
+  seen-codes : (us : Words) (nodes : List Node) (seen : ℕ) → seen_after (codes us ++ nodes) seen ≡ seen_after nodes (stood seen (varss us))
+  seen-codes nil nodes seen = refl
+  seen-codes (cons u us) nodes seen =
+      ap (λ (l : List Node). seen_after l seen) (append_assoc (code u) (codes us) nodes)
+      ∙ seen-code u (codes us ++ nodes) seen
+      ∙ seen-codes us nodes (stood seen (vars u))
+      ∙ ap (seen_after nodes) (sym (stood-more seen (vars u) (varss us)))
+
+pub seen_all : (us : Words) (seen : ℕ) → seen_after (codes us) seen ≡ stood seen (varss us)
+seen_all us seen = ap (λ (l : List Node). seen_after l seen) (sym (append-nil (codes us))) ∙ seen-codes us [] seen ∙ seen_none (stood seen (varss us))
