@@ -1,17 +1,17 @@
 -- Two words side by side: a substitution turns what is still to come of the one into what is still to come of the other.
-use Rattle.std.proofs.Common.{◌≡◌, ℕ, zero, suc, ◌+◌, ◌-◌, ◌<◌, ◌≤◌, List, [], ◌∷◌, length, get_or, drop, Some, None, Option, sym, refl, ap, ◌∙◌, subst, ap₂, add-zero, add-suc, arith}
+use Rattle.std.proofs.Common.{◌≡◌, ℕ, zero, suc, ◌+◌, ◌-◌, ◌<◌, ◌≤◌, List, length, get_or, drop, Some, None, sym, refl, ap, ◌∙◌, subst, ap₂, add-zero, add-suc, arith}
 use Rattle.std.proofs.lemmas.List.{length-drop}
-use Rattle.term.specs.Coding.{places_of, codes, first, after, hd, tl, decode, Whole, words_at, word_at, Next}
+use Rattle.term.specs.Coding.{places_of, codes, first, after, hd, tl, Whole, words_at, word_at, Next}
 use Rattle.term.specs.Joined.{Fellows}
 use Rattle.term.specs.Matched.{Turns}
 use Rattle.term.specs.Words.{Word, Words, nil, cons, ◌+++◌, len, sub, subs}
 use Rattle.term.specs.declared.node.Node.{Node}
 use Rattle.term.specs.declared.node.Node.TheVariants.{Variable, Applied}
-use Rattle.term.proofs.Codings.{after-nil, after_one, len-tl, code-decode, whole_drop, at_words, at-whole, len-at, words-in, on}
+use Rattle.term.proofs.Codings.{after_one, len-tl, code-decode, whole_drop, at_words, at-whole, len-at, words-in, on}
 use Rattle.term.proofs.Joinings.{fellows-same}
 use Rattle.term.proofs.Matchings.{turns-never, turns-places, turns-first}
 use Rattle.term.proofs.Walked.{tl-places}
-use Rattle.subsume.specs.Meeting.{Along, Met, Stepped}
+use Rattle.subsume.specs.Meeting.{Stepped}
 
 -- so many words, and those after them
 first-add : (k n : ℕ) (us : Words) → first (n + k) us ≡ first k us +++ first n (after k us)

@@ -1,15 +1,15 @@
 -- The table of labels, slot by slot, and the candidates to begin with.
-use Rattle.std.proofs.Common.{◌≡◌, ℕ, ◌+◌, ◌<◌, ◌≤◌, List, [], ◌∷◌, ◌++◌, length, get_or, drop, set, sym, refl, ap, ◌∙◌, subst, ⊎_elim, arith}
+use Rattle.std.proofs.Common.{◌≡◌, ℕ, ◌+◌, ◌<◌, List, [], ◌∷◌, ◌++◌, length, get_or, drop, set, sym, ap, ◌∙◌, subst, ⊎_elim, arith}
 use Rattle.std.proofs.lemmas.List.{get_or_append_left, get_or_push, length_push, get_or-set_same, get_or-set_other}
 use Rattle.std.proofs.lemmas.Bool.{cases_eq}
-use Rattle.term.specs.Coding.{hd, decode, word_at}
-use Rattle.term.specs.Words.{Word, var, sub}
+use Rattle.term.specs.Coding.{hd, word_at}
+use Rattle.term.specs.Words.{Word, var}
 use Rattle.term.specs.declared.node.Node.{Node}
 use Rattle.term.specs.declared.node.Node.TheVariants.{Variable}
 use Rattle.term.proofs.Codings.{at_words}
 use Rattle.term.proofs.Matchings.{turns-variable}
 use Rattle.subsume.specs.declared.prune.Slot.{Slot}
-use Rattle.subsume.specs.Choices.{entry, slot_at}
+use Rattle.subsume.specs.Choices.{slot_at}
 use Rattle.subsume.specs.Meeting.{label_of}
 use Rattle.subsume.specs.Solving.{TurnsAt, Linked}
 

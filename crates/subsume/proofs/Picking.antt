@@ -1,8 +1,9 @@
 -- Choices made one after the other.
-use Rattle.std.proofs.Common.{◌≡◌, ℕ, zero, suc, ◌+◌, ◌*◌, ◌<◌, ◌≤◌, Bool, true, false, cond, ltb, List, [], ◌∷◌, length, get_or, set, Some, None, Option, sym, refl, ap, ◌∙◌, subst, inl, inr, ⊎_elim, arith}
+use Rattle.std.proofs.Common.{◌≡◌, ℕ, zero, suc, ◌+◌, ◌*◌, ◌<◌, ◌≤◌, ltb, List, [], ◌∷◌, length, get_or, set, Some, None, Option, sym, ap, ◌∙◌, subst, inl, inr, ⊎_elim, arith}
 use Rattle.std.proofs.lemmas.List.{get_or-set_same, get_or-set_other}
 use Rattle.std.proofs.lemmas.Bool.{cases_eq, cases_lt, lt-ltb, le-ltb, cond_both}
-use Rattle.subsume.specs.Choices.{left, Fewer, Only, Narrowed, Picked, undone}
+use Rattle.subsume.specs.declared.prune.Slot.{Slot}
+use Rattle.subsume.specs.Choices.{left, Fewer, Narrowed, Taken, Picked, undone}
 
 -- a choice that is made counts no more
 undone-at : (n p : ℕ) (picks : List ℕ) → undone n (p ∷ picks) ≤ suc (undone n picks)
@@ -55,6 +56,10 @@ module _ (m n : ℕ) where
 
   pub picked-narrowed : (sets after picks : List ℕ) (i j : ℕ) → n ≤ 256 → i < length picks → Picked sets m n picks → Narrowed sets after i j n → Picked after m n (set picks i j)
   picked-narrowed sets after picks i j few inside p w = picked-set after picks i j inside (picked-fewer sets after picks p (narrowed-fewer sets after i j few w)) w.only
+
+  pub picked-taken : (slots : List Slot) (labels : List (List ℕ)) (sets after picks : List ℕ) (i j : ℕ) → n ≤ 256 → i < length picks → Picked sets m n picks → Taken slots labels m n sets i j after → Picked after m n (set picks i j)
+  picked-taken slots labels sets after picks i j few inside p t =
+      picked-fewer t.mid after (set picks i j) (picked-narrowed sets t.mid picks i j few inside p t.narrowed) t.pruned.fewer
 
 -- the literal chosen so far
 abbrev pub Choosing : Option ℕ → (fewest m n i : ℕ) → List ℕ → Type 0

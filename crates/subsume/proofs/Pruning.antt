@@ -1,9 +1,9 @@
 -- What is struck out by marks is taken by no choice that agrees with the table.
-use Rattle.std.proofs.Common.{◌≡◌, ℕ, ◌+◌, ◌*◌, ◌%◌, ◌<◌, ◌≤◌, List, [], length, get_or, sym, refl, ap, ◌∙◌, subst, inl, inr, ⊎_elim, arith}
+use Rattle.std.proofs.Common.{◌≡◌, ℕ, ◌+◌, ◌*◌, ◌%◌, ◌<◌, ◌≤◌, List, [], length, get_or, sym, ap, ◌∙◌, subst, inl, inr, ⊎_elim, arith}
 use Rattle.std.proofs.lemmas.Bool.{cases_eq, cases_lt}
 use Rattle.subsume.specs.declared.prune.Slot.{Slot}
 use Rattle.subsume.specs.Bits.{bit_at}
-use Rattle.subsume.specs.Choices.{left, Among, Fewer, entry, slot_at, Fits, Pruned, Marked, Sifted}
+use Rattle.subsume.specs.Choices.{left, entry, slot_at, Pruned, Marked, Sifted}
 
 module _ (slots : List Slot) (labels : List (List ℕ)) (m n : ℕ) where
   pub pruned-none : (c : List ℕ) → Pruned slots labels m n c c

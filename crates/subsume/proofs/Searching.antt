@@ -1,11 +1,9 @@
 -- What the search tries, and what it leaves out.
-use Rattle.std.proofs.Common.{◌≡◌, ℕ, ◌+◌, ◌*◌, ◌<◌, ◌≤◌, Bool, true, false, List, length, get_or, Decides, sym, refl, ap, ◌∙◌, subst, inl, inr, ⊎_elim, arith}
+use Rattle.std.proofs.Common.{◌≡◌, ℕ, ◌+◌, ◌*◌, ◌<◌, ◌≤◌, Bool, true, false, List, length, get_or, Decides, sym, ap, ◌∙◌, subst, inl, inr, ⊎_elim, arith}
 use Rattle.std.proofs.lemmas.Bool.{cases_eq, cases_lt, both_ways}
-use Rattle.term.specs.Words.{Word}
 use Rattle.term.specs.declared.node.Node.{Node}
 use Rattle.subsume.specs.declared.prune.Slot.{Slot}
-use Rattle.subsume.specs.Bits.{bit_at}
-use Rattle.subsume.specs.Choices.{left, slot_at, Among, Owned, Fits, Pruned, Narrowed, Taken, Picked}
+use Rattle.subsume.specs.Choices.{left, slot_at, Among, Owned, Fits, Taken, Picked}
 use Rattle.subsume.specs.Meeting.{label_of}
 use Rattle.subsume.specs.Solving.{TurnsAt, Works, Linked, Solved, Hopeful}
 

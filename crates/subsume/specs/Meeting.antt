@@ -6,7 +6,6 @@ use Rattle.term.specs.Matched.{Turns}
 use Rattle.term.specs.Words.{Word, sub}
 use Rattle.term.specs.declared.node.Node.{Node}
 use Rattle.term.specs.declared.node.Node.TheVariants.{Variable, Applied}
-use Rattle.term.specs.declared.node.Symbol.{Symbol}
 use Rattle.term.specs.declared.node.Symbol.TheVariants.{Function, Positive, Negative}
 
 -- p is a node of the word at i, or where that word ends

@@ -1,5 +1,6 @@
 // Covering of clauses: whether some substitution turns each literal of one into a literal of another.
 #![tactic(auto)]
+
 mod bits;
 mod check;
 mod link;

@@ -1,6 +1,6 @@
 use Rattle.std.proofs.Common.{ℕ, replicate, None, sym, ap, subst}
 use Rattle.std.proofs.lemmas.List.{length-replicate}
-use Rattle.term.specs.Matched.{Below, Bindings}
+use Rattle.term.specs.Matched.{Below}
 use Rattle.subsume.proofs.check.check.Goals as goal
 
 pub check_each-requires : goal.check_each-requires

@@ -1,4 +1,4 @@
-use Rattle.std.proofs.Common.{◌≡◌, length, sym, ap, ◌∙◌, subst, arith, rules}
+use Rattle.std.proofs.Common.{length, rules}
 use Rattle.record.proofs.Places.{inside-at}
 use Rattle.subsume.proofs.link.add_slots.Goals as goal
 

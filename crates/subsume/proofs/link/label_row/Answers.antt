@@ -1,10 +1,7 @@
-use Rattle.std.proofs.Common.{◌≡◌, ℕ, ◌<◌, length, get_or, set, sym, ap, ◌∙◌, subst, ⊎_elim, arith}
+use Rattle.std.proofs.Common.{◌≡◌, ℕ, length, get_or, set, ap, ◌∙◌, subst, ⊎_elim, arith}
 use Rattle.std.proofs.lemmas.List.{length-set, length-replicate, get_or-set_same, get_or-set_other}
 use Rattle.std.proofs.lemmas.Bool.{cases_eq}
-use Rattle.term.specs.Coding.{word_at}
-use Rattle.term.specs.Words.{Word, sub}
 use Rattle.record.proofs.Places.{inside-at}
-use Rattle.subsume.specs.Meeting.{label_of}
 use Rattle.subsume.specs.Solving.{TurnsAt}
 use Rattle.subsume.proofs.link.label_row.Goals as goal
 

@@ -4,7 +4,7 @@ use Rattle.std.proofs.lemmas.List.{drop_more}
 use Rattle.term.specs.declared.node.Node.{Node}
 use Rattle.term.specs.declared.node.Node.TheVariants.{Variable}
 use Rattle.term.proofs.Codings.{word-between}
-use Rattle.subsume.specs.Meeting.{number, mixed, label_of}
+use Rattle.subsume.specs.Meeting.{mixed, label_of}
 use Rattle.subsume.proofs.meeting.label.Goals as goal
 
 between_first : (nodes : List Node) (i j : ℕ) → i < j → i < length nodes → between i j nodes ≡ get_or nodes i (Variable 0) ∷ between (i + 1) j nodes

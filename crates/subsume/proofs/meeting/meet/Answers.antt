@@ -1,4 +1,4 @@
-use Rattle.std.proofs.Common.{◌≡◌, ℕ, ◌<◌, get_or, sym, refl, subst, arith}
+use Rattle.std.proofs.Common.{◌≡◌, ℕ, get_or, refl, subst, arith}
 use Rattle.term.specs.declared.node.Node.TheVariants.{Variable}
 use Rattle.subsume.proofs.Abreast.{Abreast, abreast-first, inside, met-here, abreast-on, abreast-never}
 use Rattle.subsume.proofs.meeting.meet.Goals as goal

@@ -1,4 +1,4 @@
-use Rattle.std.proofs.Common.{◌≡◌, ℕ, ◌<◌, ◌≤◌, List, [], length, get_or, sym, ap, ◌∙◌, subst, arith}
+use Rattle.std.proofs.Common.{◌≡◌, ◌<◌, ◌≤◌, List, [], length, get_or, sym, ap, subst, arith}
 use Rattle.bounded.specs.Elems.{elems}
 use Rattle.subsume.specs.declared.prune.Slot.{Slot}
 use Rattle.subsume.specs.Choices.{slot_at, Marked, Sifted, Pruned}

@@ -1,4 +1,4 @@
-use Rattle.std.proofs.Common.{ℕ, List, sym, subst}
+use Rattle.std.proofs.Common.{sym, subst}
 use Rattle.bounded.specs.Elems.{elems}
 use Rattle.subsume.specs.Choices.{Pruned}
 use Rattle.subsume.proofs.Pruning.{pruned-then}

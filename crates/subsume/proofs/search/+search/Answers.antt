@@ -1,8 +1,8 @@
-use Rattle.std.proofs.Common.{◌≡◌, ℕ, ◌<◌, ◌≤◌, true, false, List, length, set, sym, refl, ap, ◌∙◌, subst, arith, rules}
+use Rattle.std.proofs.Common.{◌+◌, ◌<◌, length, ◌∙◌, arith, rules}
 use Rattle.std.proofs.lemmas.List.{length-set}
 use Rattle.std.proofs.lemmas.Bool.{both_ways, false≢true}
 use Rattle.bounded.specs.Elems.{elems}
-use Rattle.subsume.proofs.Picking.{undone-less, picked-fewer, picked-narrowed}
+use Rattle.subsume.proofs.Picking.{undone-less, picked-taken}
 use Rattle.subsume.proofs.Searching.{linked-owned, tried, decided, out_none, out-more, out-all, gone}
 use Rattle.subsume.proofs.search.+search.Goals as goal
 use Rattle.subsume.proofs.search.+search.Goals.{then-test+else-search, else-test}
@@ -13,7 +13,18 @@ returns-in_default g t c =
     record { found = d.0; none = d.1 }
 
 pub loop-j-init : goal.loop-j-init
-loop-j-init g t c = out_none c.args.a.nodes.now c.args.a.starts.now c.args.b.nodes.now c.args.b.starts.now c.args.sets.now c.in-Some.i
+loop-j-init g t c =
+    let m = length c.args.a.starts.now in
+    let n = length c.args.b.starts.now in
+    let made = c.settle.new.picks in
+    let i = c.in-Some.i in
+    let inside : i < length made = omega (arith, c.in-Some.ensures.0, c.requires.few.0, c.settle.ensures.picked.1) in
+    record {
+      out = out_none c.args.a.nodes.now c.args.a.starts.now c.args.b.nodes.now c.args.b.starts.now c.args.sets.now i;
+      picked = λ next _ taken. picked-taken m n (elems c.args.table.now.slots) c.args.table.now.labels c.args.sets.now next made i 0 (omega (arith, c.requires.few.1, c.requires.few.2)) inside c.settle.ensures.picked.0 taken;
+      long = length-set made i 0 ∙ c.settle.ensures.picked.1;
+      falls = λ h. omega (arith, undone-less n made i 0 h inside c.in-Some.ensures.1, c.settle.ensures.fewer);
+    }
 
 pub take-next-requires : goal.take-next-requires
 take-next-requires g t c = (
@@ -23,24 +34,6 @@ take-next-requires g t c = (
     (c.in-Some.ensures.0, c.requires.few),
   ),
 )
-
-pub search-requires : goal.search-requires
-search-requires g t c =
-    let n = length c.args.b.starts.now in
-    let made = c.settle.new.picks in
-    let i = c.in-Some.i in
-    let j = c.loop-j.j in
-    let chosen = c.in-Some.ensures in
-    let long = c.settle.ensures.picked.1 in
-    let few = c.requires.few in
-    let inside : i < length made = omega (arith, chosen.0, few.0, long) in
-    let less = undone-less n made i j c.loop-j-test.true inside chosen.1 in
-    let taken = c.take-next.ensures in
-    let mid = picked-narrowed (length c.args.a.starts.now) n c.args.sets.now taken.mid made i j (omega (arith, few.1, few.2)) inside c.settle.ensures.picked.0 taken.narrowed in
-    let after = picked-fewer (length c.args.a.starts.now) n taken.mid c.take-next.result (set made i j) mid taken.pruned.fewer in (
-      omega (arith, less, c.settle.ensures.fewer, c.decreases),
-      (search rules, (search rules, (search rules, (search rules, (search rules, (omega (arith, few.2), (c.requires.left, (c.requires.right, (c.requires.variables, (few, (c.requires.linked, (after, length-set made i j ∙ long)))))))))))),
-    )
 
 pub loop-j-preserved : goal.loop-j-preserved
 loop-j-preserved g t c =
@@ -53,17 +46,26 @@ loop-j-preserved g t c =
     let j = c.loop-j.j in
     let inside = c.in-Some.ensures.0 in
     let few = c.requires.few in
-    out-more N S M T sets i j c.loop-j.invariant
-    (elim c.if-test.branch [
-      | then-test+else-search w ↦ λ h e.
-          w.search.ensures.none w.if-search.false
-          (tried N S M T sets w.take-next.result i j (elems c.args.table.now.slots) c.args.table.now.labels (omega (arith, few.1, few.2)) c.requires.linked w.take-next.ensures h e)
-      | else-test w ↦ gone N S M T sets i j inside (λ x. both_ways _ w.if-test.false (c.test.ensures.1 x))
-    ])
+    let n = length T in
+    let made = c.settle.new.picks in
+    let chosen : i < length made = omega (arith, inside, few.0, c.settle.ensures.picked.1) in
+    record {
+      out =
+          out-more N S M T sets i j c.loop-j.invariant.out
+          (elim c.if-test.branch [
+            | then-test+else-search w ↦ λ h e.
+                w.search.ensures.none w.if-search.false
+                (tried N S M T sets w.take-next.result i j (elems c.args.table.now.slots) c.args.table.now.labels (omega (arith, few.1, few.2)) c.requires.linked w.take-next.ensures h e)
+            | else-test w ↦ gone N S M T sets i j inside (λ x. both_ways _ w.if-test.false (c.test.ensures.1 x))
+          ]);
+      picked = λ next _ taken. picked-taken (length S) n (elems c.args.table.now.slots) c.args.table.now.labels sets next made i (j + 1) (omega (arith, few.1, few.2)) chosen c.settle.ensures.picked.0 taken;
+      long = length-set made i (j + 1) ∙ c.settle.ensures.picked.1;
+      falls = λ h. omega (arith, undone-less n made i (j + 1) h chosen c.in-Some.ensures.1, c.settle.ensures.fewer);
+    }
 
 pub returns : goal.returns
 returns g t c =
     record {
       found = λ e. absurd (false≢true e);
-      none = λ _ h. out-all c.args.a.nodes.now c.args.a.starts.now c.args.b.nodes.now c.args.b.starts.now c.args.sets.now c.in-Some.i c.loop-j.j c.in-Some.ensures.0 (omega arith) c.loop-j.invariant h;
+      none = λ _ h. out-all c.args.a.nodes.now c.args.a.starts.now c.args.b.nodes.now c.args.b.starts.now c.args.sets.now c.in-Some.i c.loop-j.j c.in-Some.ensures.0 (omega arith) c.loop-j.invariant.out h;
     }
