@@ -1,4 +1,3 @@
-pub mod Nodes
 pub mod Sameness
 pub mod Lawful
 pub mod Words
