@@ -41,15 +41,7 @@ pub fn variable_of<const N: usize>(
 {
     let count = pairs.len();
     for (k, pair) in pairs.as_slice().iter().enumerate() {
-        let left = WordAt {
-            nodes: a.nodes,
-            start: pair.left,
-        };
-        let right = WordAt {
-            nodes: b.nodes,
-            start: pair.right,
-        };
-        if a.is_same(left) && b.is_same(right) {
+        if a.is_same(a.at(pair.left)) && b.is_same(b.at(pair.right)) {
             return k as u16;
         }
     }
@@ -83,15 +75,7 @@ pub fn join_word<const N: usize>(
     let mut p = a.start + 1;
     let mut q = b.start + 1;
     for _ in 0..places(node) {
-        let left = WordAt {
-            nodes: a.nodes,
-            start: p,
-        };
-        let right = WordAt {
-            nodes: b.nodes,
-            start: q,
-        };
-        (p, q) = join_word(left, right, out, pairs);
+        (p, q) = join_word(a.at(p), b.at(q), out, pairs);
     }
     (p, q)
 }

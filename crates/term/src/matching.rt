@@ -14,11 +14,7 @@ fn bind(target: WordAt<'_>, bound: &mut [Option<usize>], x: u16) -> bool
     ensures { MatchBool result (Narrowed target.entry.nodes.now bound.old bound.new (λ θ. θ x ≡ word_at target.entry.nodes.now target.entry.start)) ((θ : ℕ → Word) → Agrees target.entry.nodes.now bound.old θ → θ x ≢ word_at target.entry.nodes.now target.entry.start) }
 {
     match bound[x as usize] {
-        Some(start) => WordAt {
-            nodes: target.nodes,
-            start,
-        }
-        .is_same(target),
+        Some(start) => target.at(start).is_same(target),
         None => {
             bound[x as usize] = Some(target.start);
             true
@@ -50,15 +46,7 @@ pub fn match_word(
     let mut p = pattern.start + 1;
     let mut q = target.start + 1;
     for _ in 0..places(node) {
-        let left = WordAt {
-            nodes: pattern.nodes,
-            start: p,
-        };
-        let right = WordAt {
-            nodes: target.nodes,
-            start: q,
-        };
-        (p, q) = match_word(left, right, bound)?;
+        (p, q) = match_word(pattern.at(p), target.at(q), bound)?;
     }
     Some((p, q))
 }

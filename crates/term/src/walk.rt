@@ -14,7 +14,19 @@ pub struct WordAt<'a> {
     pub ghost inside: { start < length nodes.now },
 }
 
-impl WordAt<'_> {
+impl<'a> WordAt<'a> {
+    // The word at another place among the same nodes.
+    pub fn at(self, start: usize) -> WordAt<'a>
+        requires { start < length self.nodes.now }
+        ensures nodes { result.nodes.now ≡ self.entry.nodes.now }
+        ensures start { result.start ≡ start }
+    {
+        WordAt {
+            nodes: self.nodes,
+            start,
+        }
+    }
+
     // Where the word ends.
     pub fn end(self) -> usize
         ensures { Next self.entry.nodes.now self.entry.start result }

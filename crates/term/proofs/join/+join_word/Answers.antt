@@ -36,8 +36,8 @@ loop-init g t c =
 
 pub loop-preserved : goal.loop-preserved
 loop-preserved g t c =
-    let go = going_on c.args.a.nodes.now c.args.b.nodes.now _ (c.places-end.result - c.loop.counter) (c.places-end.result - (c.loop.counter + 1)) _ _ _ _ _ _ _ _ _ _ _ _ (omega arith) (omega arith) c.loop.invariant.going c.join_word.ensures in
-    let step = c.join_word.ensures in
+    let step = rw (c.at.ensures.nodes, c.at.ensures.start, c.at-in-loop.ensures.nodes, c.at-in-loop.ensures.start) at c.join_word.ensures in
+    let go = going_on c.args.a.nodes.now c.args.b.nodes.now _ (c.places-end.result - c.loop.counter) (c.places-end.result - (c.loop.counter + 1)) _ _ _ _ _ _ _ _ _ _ _ _ (omega arith) (omega arith) c.loop.invariant.going step in
     record {
       going = go;
       later = omega (arith, step.left.later);

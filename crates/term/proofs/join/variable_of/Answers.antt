@@ -8,21 +8,17 @@ use Rattle.term.specs.Joined.{mean, Inside}
 use Rattle.term.proofs.Pairings.{none, inside-at, inside-push, found, missing}
 use Rattle.term.proofs.join.variable_of.Goals as goal
 
-pub invariant_of-left : goal.invariant_of-left
-invariant_of-left g c =
+pub at-requires : goal.at-requires
+at-requires g c =
     let a = c.args.a.nodes.now in
     let b = c.args.b.nodes.now in
-    let all = c.as_slice-pair-items.result.now in
-    let h = inside-at a b all c.loop-k.k none (subst (Inside a b) (sym c.as_slice-pair-items.ensures.value) c.requires.known) (omega arith) in
-    record { whole = c.args.a.whole; inside = h.0 }
+    (inside-at a b c.as_slice-pair-items.result.now c.loop-k.k none (subst (Inside a b) (sym c.as_slice-pair-items.ensures.value) c.requires.known) (omega arith)).0
 
-pub invariant_of-right : goal.invariant_of-right
-invariant_of-right g c =
+pub at-requires-then-is_same : goal.at-requires-then-is_same
+at-requires-then-is_same g c =
     let a = c.args.a.nodes.now in
     let b = c.args.b.nodes.now in
-    let all = c.as_slice-pair-items.result.now in
-    let h = inside-at a b all c.loop-k.k none (subst (Inside a b) (sym c.as_slice-pair-items.ensures.value) c.requires.known) (omega arith) in
-    record { whole = c.args.b.whole; inside = h.1 }
+    (inside-at a b c.as_slice-pair-items.result.now c.loop-k.k none (subst (Inside a b) (sym c.as_slice-pair-items.ensures.value) c.requires.known) (omega arith)).1
 
 pub returns-then-is_same-2 : goal.returns-then-is_same-2
 returns-then-is_same-2 g c =
@@ -31,7 +27,10 @@ returns-then-is_same-2 g c =
     let all = c.as_slice-pair-items.result.now in
     let e = c.as_slice-pair-items.ensures.value in
     let f = found a b (word_at a c.args.a.start) (word_at b c.args.b.start) all c.loop-k.k none (omega arith) c.loop-k.invariant
-    (c.is_same.ensures.0 c.if-is_same.true, c.is_same-then-is_same.ensures.0 c.if-is_same-2.true) in
+    (
+      rw (c.at.ensures.nodes, c.at.ensures.start) at (c.is_same.ensures.0 c.if-is_same.true),
+      rw (c.at-then-is_same.ensures.nodes, c.at-then-is_same.ensures.start) at (c.is_same-then-is_same.ensures.0 c.if-is_same-2.true),
+    ) in
     record { number = rw (sym e) (sym f.0); table = rw (sym e) (sym f.1); known = c.requires.known; size = omega arith }
 
 pub returns : goal.returns
