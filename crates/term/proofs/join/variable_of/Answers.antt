@@ -26,8 +26,7 @@ returns-then-is_same-2 g c =
     let b = c.args.b.nodes.now in
     let all = c.as_slice-pair-items.result.now in
     let e = c.as_slice-pair-items.ensures.value in
-    let f = found a b (word_at a c.args.a.start) (word_at b c.args.b.start) all c.loop-k.k none (omega arith) c.loop-k.invariant
-    (
+    let f = found a b (word_at a c.args.a.start) (word_at b c.args.b.start) all c.loop-k.k none (omega arith) c.loop-k.invariant (
       rw (c.at.ensures.nodes, c.at.ensures.start) at (c.is_same.ensures.0 c.if-is_same.true),
       rw (c.at-then-is_same.ensures.nodes, c.at-then-is_same.ensures.start) at (c.is_same-then-is_same.ensures.0 c.if-is_same-2.true),
     ) in
