@@ -31,13 +31,14 @@ impl<'a> WordAt<'a> {
     pub fn end(self) -> usize
         ensures { Next self.entry.nodes.now self.entry.start result }
     {
-        let mut at = self.start;
         let mut need: usize = 1;
-        while need > 0 {
-            need = need - 1 + places(self.nodes[at]);
-            at += 1;
+        for (passed, node) in self.nodes[self.start..].iter().enumerate() {
+            if need == 0 {
+                return self.start + passed;
+            }
+            need = need - 1 + places(*node);
         }
-        at
+        self.nodes.len()
     }
 
     // Whether two words are the same.

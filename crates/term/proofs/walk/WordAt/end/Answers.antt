@@ -1,31 +1,37 @@
-use Rattle.std.proofs.Common.{ℕ, ◌+◌, ◌-◌, ap, ◌∙◌, arith}
+use Rattle.std.proofs.Common.{◌≡◌, ◌+◌, get_or, length, ◌∙◌, arith}
+use Rattle.std.proofs.lemmas.Grind.{common_steps}
 use Rattle.term.specs.declared.node.Node.TheVariants.{Variable}
-use Rattle.term.specs.Coding.{words_at, after}
-use Rattle.term.proofs.Codings.{words-in, len-at, len-rest, after_one, on}
+use Rattle.term.specs.Coding.{places_of, words_at}
+use Rattle.term.proofs.Codings.{len-at, len-rest, after_one, on}
 use Rattle.term.proofs.walk.WordAt.end.Goals as goal
 
-pub loop-need-init : goal.loop-need-init
-loop-need-init c =
+pub loop-passed-init : goal.loop-passed-init
+loop-passed-init c =
     let w = c.args.self in
-    (omega (arith, w.inside), omega arith, len-at w.nodes.now w.start w.inside, after_one (words_at w.nodes.now w.start))
-
-pub bounds-self-at : goal.bounds-self-at
-bounds-self-at c = words-in c.args.self.nodes.now c.loop-need.at c.loop-need.need (omega arith) c.loop-need.invariant.2
+    let z : w.start + 0 ≡ w.start = omega arith in
+    rw z (omega arith, len-at w.nodes.now w.start w.inside, after_one (words_at w.nodes.now w.start))
 
 pub overflow_add-need : goal.overflow_add-need
 overflow_add-need c =
     let w = c.args.self in
-    let s = on w.nodes.now c.loop-need.at c.loop-need.need (Variable 0) w.whole (omega arith) c.loop-need.invariant.2 in
-    omega (arith, s.enough, len-rest w.nodes.now (c.loop-need.at + 1))
+    let at = w.start + c.loop-passed.passed in
+    let s = on w.nodes.now at c.loop-passed.need (Variable 0) w.whole (omega arith) c.loop-passed.invariant.1 in
+    omega (arith, s.enough, len-rest w.nodes.now (at + 1))
 
-pub loop-need-smaller : goal.loop-need-smaller
-loop-need-smaller c = let h = words-in c.args.self.nodes.now c.loop-need.at c.loop-need.need (omega arith) c.loop-need.invariant.2 in omega arith
+pub loop-passed-preserved : goal.loop-passed-preserved
+loop-passed-preserved c =
+    let w = c.args.self in
+    let nodes = w.nodes.now in
+    let at = w.start + c.loop-passed.passed in
+    let e : c.places.result ≡ places_of (get_or nodes at (Variable 0)) = grind (arith, common_steps) in
+    let s = on nodes at c.loop-passed.need (Variable 0) w.whole (omega arith) c.loop-passed.invariant.1 in
+    let z : w.start + (c.loop-passed.passed + 1) ≡ at + 1 = omega arith in
+    rw (z, e) (omega arith, s.enough, s.same ∙ c.loop-passed.invariant.2)
 
-pub loop-need-preserved : goal.loop-need-preserved
-loop-need-preserved c =
-    let nodes = c.args.self.nodes.now in
-    let at = c.loop-need.at in
-    let h = words-in nodes at c.loop-need.need (omega arith) c.loop-need.invariant.2 in
-    let s = on nodes at c.loop-need.need (Variable 0) c.args.self.whole (omega arith) c.loop-need.invariant.2 in
-    let e = c.places.ensures.value in
-    (omega arith, omega arith, rw e s.enough, ap (λ (n : ℕ). after (c.loop-need.need - 1 + n) (words_at nodes (at + 1))) e ∙ s.same ∙ c.loop-need.invariant.3)
+pub returns : goal.returns
+returns c =
+    let w = c.args.self in
+    let nodes = w.nodes.now in
+    let h : w.start + c.loop-passed.passed ≡ length nodes = grind (arith, common_steps) in
+    let none : c.loop-passed.need ≡ 0 = omega (arith, len-rest nodes (w.start + c.loop-passed.passed), c.loop-passed.invariant.1) in
+    record { later = w.inside; within = omega arith; rest = rw (none, h) at c.loop-passed.invariant.2 }
