@@ -4,14 +4,15 @@ use Rattle.std.proofs.lemmas.Bool.{cases_eq, false≢true, and_parts, leb-true}
 use Rattle.term.specs.declared.node.Node.{Node}
 use Rattle.term.specs.declared.node.Node.TheVariants.{Variable, Applied}
 use Rattle.term.specs.declared.node.Symbol.{Symbol}
+use Rattle.term.specs.declared.walk.WordAt.{WordAt}
 use Rattle.term.specs.Words.{Word, var, app, Words, cons, len, sub, subs}
 use Rattle.term.specs.Coding.{places_of, first, hd, tl, decode, Whole, words_at, word_at, Next}
 use Rattle.term.specs.Joined.{Fellows}
 use Rattle.term.specs.Lawful.{functional, lawful}
 use Rattle.term.specs.Matched.{Bindings, Below, Placed, Agrees, Narrowed, Matched}
 use Rattle.term.proofs.Substitutions.{len-subs}
-use Rattle.term.proofs.Codings.{len-first, at_words, at-whole}
-use Rattle.term.proofs.Walked.{Walked, first_step, walked-some, walked_on, walked-first, walked-last}
+use Rattle.term.proofs.Codings.{len-first}
+use Rattle.term.proofs.Walked.{root, root-words, root-whole, Walked, first_step, walked-some, walked_on, walked-first, walked-last}
 use Rattle.term.proofs.Joinings.{fellows-same}
 
 some_same : (p q : ℕ) → Some p ≡ Some q → p ≡ q
@@ -173,64 +174,64 @@ module _ (P B : List Node) where
     pub going-never : Matched P p B q bound None bound → (θ : ℕ → Word) → Agrees B bound0 θ → subs θ (first k (words_at P p0)) ≡ first k (words_at B q0) → ⊥
     going-never w θ a t = let b = g.on θ a t in w θ b.0 ((one_word θ).0 b.1).0
 
-  module _ (i j : ℕ) (d : Node) (hi : i < length P) (hj : j < length B) (wa : Whole P) (wb : Whole B) where
-    -- a variable
-    pub match-variable : (x q : ℕ) (before after : Bindings) → get_or P i d ≡ Variable x → Next B j q → Narrowed B before after (λ θ. θ x ≡ word_at B j) → Matched P i B j before (Some (i + 1, q)) after
-    match-variable x q before after e n w =
-        let is : word_at P i ≡ var x = ap hd (at_words P i d hi) ∙ turns-variable (get_or P i d) (drop (i + 1) P) x e in
-        let none : 0 ≡ places_of (get_or P i d) = sym (ap places_of e) in (
-          walked-last P i d hi 0 0 (i + 1) none refl (walked-first P i d hi 0 0 wa none refl),
-          n,
-          subst (λ (u : Word). Narrowed B before after (λ θ. sub θ u ≡ word_at B j)) (sym is) w,
+module _ (P B : WordAt) where
+  -- a variable
+  pub match-variable : (x q : ℕ) (before after : Bindings) → root P ≡ Variable x → Next B.nodes.now B.start q → Narrowed B.nodes.now before after (λ θ. θ x ≡ word_at B.nodes.now B.start) → Matched P.nodes.now P.start B.nodes.now B.start before (Some (P.start + 1, q)) after
+  match-variable x q before after e n w =
+      let is : word_at P.nodes.now P.start ≡ var x = ap hd (root-words P) ∙ turns-variable (root P) (drop (P.start + 1) P.nodes.now) x e in
+      let none : 0 ≡ places_of (root P) = sym (ap places_of e) in (
+        walked-last P.nodes.now P.start (Variable 0) P.inside 0 0 (P.start + 1) none refl (walked-first P.nodes.now P.start (Variable 0) P.inside 0 0 P.whole none refl),
+        n,
+        subst (λ (u : Word). Narrowed B.nodes.now before after (λ θ. sub θ u ≡ word_at B.nodes.now B.start)) (sym is) w,
+      )
+
+  pub match-variable-never : (x : ℕ) (before after : Bindings) → root P ≡ Variable x → ((θ : ℕ → Word) → Agrees B.nodes.now before θ → θ x ≡ word_at B.nodes.now B.start → ⊥) → Matched P.nodes.now P.start B.nodes.now B.start before None after
+  match-variable-never x before after e n θ a t =
+      let is : word_at P.nodes.now P.start ≡ var x = ap hd (root-words P) ∙ turns-variable (root P) (drop (P.start + 1) P.nodes.now) x e in
+      n θ a (ap (sub θ) (sym is) ∙ t)
+
+  -- other symbols
+  pub match-never : (before after : Bindings) → ((v : ℕ) → root P ≡ Variable v → ⊥) → ¬ Fellows (root P) (root B) → Matched P.nodes.now P.start B.nodes.now B.start before None after
+  match-never before after n f θ a t =
+      turns-never (root P) (root B) (drop (P.start + 1) P.nodes.now) (drop (B.start + 1) B.nodes.now) (root-whole P) (root-whole B) n f θ
+      (ap (sub θ) (ap hd (sym (root-words P))) ∙ t ∙ ap hd (root-words B))
+
+  -- the same symbol
+  module _ (f : Fellows (root P) (root B)) (k : ℕ) (e : k ≡ places_of (root P)) where
+    in-places : (θ : ℕ → Word) → (sub θ (word_at P.nodes.now P.start) ≡ word_at B.nodes.now B.start → subs θ (first k (words_at P.nodes.now (P.start + 1))) ≡ first k (words_at B.nodes.now (B.start + 1)))
+        × (subs θ (first k (words_at P.nodes.now (P.start + 1))) ≡ first k (words_at B.nodes.now (B.start + 1)) → sub θ (word_at P.nodes.now P.start) ≡ word_at B.nodes.now B.start)
+    in-places θ =
+        let t = turns-places (root P) (root B) (drop (P.start + 1) P.nodes.now) (drop (B.start + 1) B.nodes.now) f θ in
+        let ep = ap hd (root-words P) in
+        let eb = ap hd (root-words B) in
+        (λ h. rw e (t.0 (ap (sub θ) (sym ep) ∙ h ∙ eb)), λ h. ap (sub θ) ep ∙ t.1 (rw e at h) ∙ sym eb)
+
+    pub going-first : (m : ℕ) (bound : Bindings) → m ≡ k → Placed B.nodes.now bound → Going P.nodes.now B.nodes.now k m (P.start + 1) (B.start + 1) bound (P.start + 1) (B.start + 1) bound
+    going-first m bound z w =
+        let same = ap places_of (fellows-same (root P) (root B) f) in
+        record {
+          left = walked-first P.nodes.now P.start (Variable 0) P.inside k m P.whole e z;
+          right = walked-first B.nodes.now B.start (Variable 0) B.inside k m B.whole (e ∙ same) z;
+          placed = w;
+          on = λ θ a t. (a, rw z t);
+          back = λ θ a t. (a, rw z at t);
+        }
+
+    pub going-last : (m p q : ℕ) (before after : Bindings) → m ≡ 0 → Going P.nodes.now B.nodes.now k m p q after (P.start + 1) (B.start + 1) before → Matched P.nodes.now P.start B.nodes.now B.start before (Some (p, q)) after
+    going-last m p q before after z g =
+        let same = ap places_of (fellows-same (root P) (root B) f) in
+        let done : (θ : ℕ → Word) → subs θ (first m (words_at P.nodes.now p)) ≡ first m (words_at B.nodes.now q) = λ θ. rw z refl in (
+          walked-last P.nodes.now P.start (Variable 0) P.inside k m p e z g.left,
+          walked-last B.nodes.now B.start (Variable 0) B.inside k m q (e ∙ same) z g.right,
+          record {
+            placed = g.placed;
+            back = λ θ a. let b = g.back θ a (done θ) in (b.0, (in-places θ).1 b.1);
+            on = λ θ a t. (g.on θ a ((in-places θ).0 t)).0;
+          },
         )
 
-    pub match-variable-never : (x : ℕ) (before after : Bindings) → get_or P i d ≡ Variable x → ((θ : ℕ → Word) → Agrees B before θ → θ x ≡ word_at B j → ⊥) → Matched P i B j before None after
-    match-variable-never x before after e n θ a t =
-        let is : word_at P i ≡ var x = ap hd (at_words P i d hi) ∙ turns-variable (get_or P i d) (drop (i + 1) P) x e in
-        n θ a (ap (sub θ) (sym is) ∙ t)
-
-    -- other symbols
-    pub match-never : (before after : Bindings) → ((v : ℕ) → get_or P i d ≡ Variable v → ⊥) → ¬ Fellows (get_or P i d) (get_or B j d) → Matched P i B j before None after
-    match-never before after n f θ a t =
-        turns-never (get_or P i d) (get_or B j d) (drop (i + 1) P) (drop (j + 1) B) (at-whole P i d hi wa) (at-whole B j d hj wb) n f θ
-        (ap (sub θ) (ap hd (sym (at_words P i d hi))) ∙ t ∙ ap hd (at_words B j d hj))
-
-    -- the same symbol
-    module _ (f : Fellows (get_or P i d) (get_or B j d)) (k : ℕ) (e : k ≡ places_of (get_or P i d)) where
-      in-places : (θ : ℕ → Word) → (sub θ (word_at P i) ≡ word_at B j → subs θ (first k (words_at P (i + 1))) ≡ first k (words_at B (j + 1)))
-          × (subs θ (first k (words_at P (i + 1))) ≡ first k (words_at B (j + 1)) → sub θ (word_at P i) ≡ word_at B j)
-      in-places θ =
-          let t = turns-places (get_or P i d) (get_or B j d) (drop (i + 1) P) (drop (j + 1) B) f θ in
-          let ep = ap hd (at_words P i d hi) in
-          let eb = ap hd (at_words B j d hj) in
-          (λ h. rw e (t.0 (ap (sub θ) (sym ep) ∙ h ∙ eb)), λ h. ap (sub θ) ep ∙ t.1 (rw e at h) ∙ sym eb)
-
-      pub going-first : (m : ℕ) (bound : Bindings) → m ≡ k → Placed B bound → Going P B k m (i + 1) (j + 1) bound (i + 1) (j + 1) bound
-      going-first m bound z w =
-          let same = ap places_of (fellows-same (get_or P i d) (get_or B j d) f) in
-          record {
-            left = walked-first P i d hi k m wa e z;
-            right = walked-first B j d hj k m wb (e ∙ same) z;
-            placed = w;
-            on = λ θ a t. (a, rw z t);
-            back = λ θ a t. (a, rw z at t);
-          }
-
-      pub going-last : (m p q : ℕ) (before after : Bindings) → m ≡ 0 → Going P B k m p q after (i + 1) (j + 1) before → Matched P i B j before (Some (p, q)) after
-      going-last m p q before after z g =
-          let same = ap places_of (fellows-same (get_or P i d) (get_or B j d) f) in
-          let done : (θ : ℕ → Word) → subs θ (first m (words_at P p)) ≡ first m (words_at B q) = λ θ. rw z refl in (
-            walked-last P i d hi k m p e z g.left,
-            walked-last B j d hj k m q (e ∙ same) z g.right,
-            record {
-              placed = g.placed;
-              back = λ θ a. let b = g.back θ a (done θ) in (b.0, (in-places θ).1 b.1);
-              on = λ θ a t. (g.on θ a ((in-places θ).0 t)).0;
-            },
-          )
-
-      pub going-stops : (m p q : ℕ) (before bound after : Bindings) → 0 < m → Going P B k m p q bound (i + 1) (j + 1) before → Matched P p B q bound None after → Matched P i B j before None after
-      going-stops m p q before bound after h g w θ a t = going-never k m p q bound (i + 1) (j + 1) before h g w θ a ((in-places θ).0 t)
+    pub going-stops : (m p q : ℕ) (before bound after : Bindings) → 0 < m → Going P.nodes.now B.nodes.now k m p q bound (P.start + 1) (B.start + 1) before → Matched P.nodes.now p B.nodes.now q bound None after → Matched P.nodes.now P.start B.nodes.now B.start before None after
+    going-stops m p q before bound after h g w θ a t = going-never P.nodes.now B.nodes.now k m p q bound (P.start + 1) (B.start + 1) before h g w θ a ((in-places θ).0 t)
 
 -- some substitution agrees with the bindings
 put : List Node → ℕ → Option ℕ → Word

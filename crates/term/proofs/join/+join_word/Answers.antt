@@ -1,17 +1,17 @@
-use Rattle.std.proofs.Common.{◌≡◌, ◌+◌, ◌-◌, length, get_or, ap, ◌∙◌, arith}
+use Rattle.std.proofs.Common.{◌≡◌, ◌+◌, ◌-◌, length, ap, ◌∙◌, arith}
 use Rattle.std.proofs.lemmas.List.{length_push}
 use Rattle.std.proofs.lemmas.Bool.{both_ways}
 use Rattle.bounded.specs.Elems.{elems}
 use Rattle.bounded.proofs.Rooms.{pushed_room}
 use Rattle.term.specs.declared.node.Node.TheVariants.{Variable}
-use Rattle.term.proofs.Walked.{walked-in}
+use Rattle.term.proofs.Walked.{root, walked-in}
 use Rattle.term.proofs.Joinings.{going_on, going-first, going-last, stands}
 use Rattle.term.proofs.join.+join_word.Goals as goal
 
 pub returns-then-not-fellows : goal.returns-then-not-fellows
 returns-then-not-fellows g t c =
     let new = pushed_room g.row.N (Variable c.variable_of-x.result) (elems c.args.out.now) c.push.result (elems c.push.new.self) c.push.ensures (omega (arith, c.args.a.inside)) in
-    stands c.args.a.nodes.now c.args.b.nodes.now c.args.a.start c.args.b.start (Variable 0) c.args.a.inside c.args.b.inside c.args.a.whole c.args.b.whole
+    stands c.args.a c.args.b
     c.end.result c.end-then-not-fellows.result c.variable_of-x.result (elems c.args.out.now) (elems c.push.new.self) (elems c.args.pairs.now) (elems c.variable_of-x.new.pairs)
     (λ h. both_ways _ c.if-not-fellows.true (c.fellows.ensures.1 h))
     c.end.ensures c.end-then-not-fellows.ensures c.variable_of-x.ensures.number c.variable_of-x.ensures.table c.variable_of-x.ensures.known
@@ -19,10 +19,10 @@ returns-then-not-fellows g t c =
 
 pub loop-init : goal.loop-init
 loop-init g t c =
-    let go = going-first c.args.a.nodes.now c.args.b.nodes.now c.args.a.start c.args.b.start (Variable 0) c.args.a.inside c.args.b.inside c.args.a.whole c.args.b.whole
+    let go = going-first c.args.a c.args.b
     c.places-end.result (c.places-end.result - 0) (elems c.push-2.new.self) (elems c.args.pairs.now)
     (c.fellows.ensures.0 c.if-not-fellows.false) c.places-end.ensures.value (omega arith) c.requires.known in
-    let new = pushed_room g.row.N (get_or c.args.a.nodes.now c.args.a.start (Variable 0)) (elems c.args.out.now) c.push-2.result (elems c.push-2.new.self) c.push-2.ensures (omega (arith, c.args.a.inside)) in
+    let new = pushed_room g.row.N (root c.args.a) (elems c.args.out.now) c.push-2.result (elems c.push-2.new.self) c.push-2.ensures (omega (arith, c.args.a.inside)) in
     let long : length (elems c.push-2.new.self) ≡ length (elems c.args.out.now) + 1 = ap length new ∙ length_push _ _ in
     record {
       going = go;
@@ -50,7 +50,7 @@ loop-preserved g t c =
 
 pub returns : goal.returns
 returns g t c =
-    let new = pushed_room g.row.N (get_or c.args.a.nodes.now c.args.a.start (Variable 0)) (elems c.args.out.now) c.push-2.result (elems c.push-2.new.self) c.push-2.ensures (omega (arith, c.args.a.inside)) in
-    going-last c.args.a.nodes.now c.args.b.nodes.now c.args.a.start c.args.b.start (Variable 0) c.args.a.inside c.args.b.inside c.args.a.whole c.args.b.whole
+    let new = pushed_room g.row.N (root c.args.a) (elems c.args.out.now) c.push-2.result (elems c.push-2.new.self) c.push-2.ensures (omega (arith, c.args.a.inside)) in
+    going-last c.args.a c.args.b
     c.places-end.result (c.places-end.result - c.loop.counter) c.loop.p c.loop.q _ (elems c.push-2.new.self) _ _ _
     (c.fellows.ensures.0 c.if-not-fellows.false) c.places-end.ensures.value (omega arith) new c.loop.invariant.going

@@ -15,22 +15,22 @@ bind-requires t c = record {
 
 pub returns-then-not-bind : goal.returns-then-not-bind
 returns-then-not-bind t c =
-    match-variable-never c.args.pattern.nodes.now c.args.target.nodes.now c.args.pattern.start c.args.target.start (Variable 0) c.args.pattern.inside c.args.target.inside c.args.pattern.whole c.args.target.whole
+    match-variable-never c.args.pattern c.args.target
     c.in-Variable.x c.args.bound.now c.bind.new.bound c.in-Variable.is c.if-not-bind.ensures
 
 pub returns-in-Variable : goal.returns-in-Variable
 returns-in-Variable t c =
-    match-variable c.args.pattern.nodes.now c.args.target.nodes.now c.args.pattern.start c.args.target.start (Variable 0) c.args.pattern.inside c.args.target.inside c.args.pattern.whole c.args.target.whole
+    match-variable c.args.pattern c.args.target
     c.in-Variable.x c.end.result c.args.bound.now c.bind.new.bound c.in-Variable.is c.end.ensures c.if-not-bind.ensures
 
 pub returns-then-not-fellows : goal.returns-then-not-fellows
 returns-then-not-fellows t c =
-    match-never c.args.pattern.nodes.now c.args.target.nodes.now c.args.pattern.start c.args.target.start (Variable 0) c.args.pattern.inside c.args.target.inside c.args.pattern.whole c.args.target.whole
+    match-never c.args.pattern c.args.target
     c.args.bound.now c.args.bound.now c.in_default.not-Variable (λ h. both_ways _ c.if-not-fellows.true (c.fellows.ensures.1 h))
 
 pub loop-init : goal.loop-init
 loop-init t c =
-    going-first c.args.pattern.nodes.now c.args.target.nodes.now c.args.pattern.start c.args.target.start (Variable 0) c.args.pattern.inside c.args.target.inside c.args.pattern.whole c.args.target.whole
+    going-first c.args.pattern c.args.target
     (c.fellows.ensures.0 c.if-not-fellows.false) c.places-end.result c.places-end.ensures.value (c.places-end.result - 0) c.args.bound.now (omega arith) c.requires.placed
 
 pub at-requires : goal.at-requires
@@ -49,7 +49,7 @@ match_word-requires t c =
 
 pub returns-in_err-p : goal.returns-in_err-p
 returns-in_err-p t c =
-    rw c.from_residual.ensures (going-stops c.args.pattern.nodes.now c.args.target.nodes.now c.args.pattern.start c.args.target.start (Variable 0) c.args.pattern.inside c.args.target.inside c.args.pattern.whole c.args.target.whole
+    rw c.from_residual.ensures (going-stops c.args.pattern c.args.target
     (c.fellows.ensures.0 c.if-not-fellows.false) c.places-end.result c.places-end.ensures.value (c.places-end.result - c.loop.counter) c.loop.p c.loop.q c.args.bound.now c.loop.bound c.match_word.new.bound (omega arith) c.loop.invariant (rw (c.at.ensures.nodes, c.at.ensures.start, c.at-in-loop.ensures.nodes, c.at-in-loop.ensures.start) at c.in_err-p.ensures))
 
 pub loop-preserved : goal.loop-preserved
@@ -59,5 +59,5 @@ loop-preserved t c =
 
 pub returns : goal.returns
 returns t c =
-    going-last c.args.pattern.nodes.now c.args.target.nodes.now c.args.pattern.start c.args.target.start (Variable 0) c.args.pattern.inside c.args.target.inside c.args.pattern.whole c.args.target.whole
+    going-last c.args.pattern c.args.target
     (c.fellows.ensures.0 c.if-not-fellows.false) c.places-end.result c.places-end.ensures.value (c.places-end.result - c.loop.counter) c.loop.p c.loop.q c.args.bound.now c.loop.bound (omega arith) c.loop.invariant
