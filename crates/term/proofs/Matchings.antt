@@ -15,16 +15,10 @@ use Rattle.term.proofs.Codings.{len-first}
 use Rattle.term.proofs.Walked.{root, root-words, root-whole, Walked, first_step, walked-some, walked_on, walked-first, walked-last}
 use Rattle.term.proofs.Joinings.{fellows-same}
 
-some_same : (p q : ℕ) → Some p ≡ Some q → p ≡ q
-some_same p q e = cc
-
 none-bound : (n x : ℕ) → ◌≡◌ {A = Option ℕ} (get_or (replicate n None) x None) None
 none-bound zero x = refl
 none-bound (suc n) zero = refl
 none-bound (suc n) (suc x) = none-bound n x
-
-none-some : (q : ℕ) → None ≡ Some q → ⊥
-none-some q e = let z : ◌≡◌ {A = ℕ} 0 1 = cc in omega arith
 
 -- a variable that stands for nothing yet
 pub bind-new : (target : List Node) (bound : Bindings) (x j : ℕ) → j < length target → Placed target bound → x < length bound → get_or bound x None ≡ None →
@@ -34,19 +28,19 @@ bind-new target bound x j h p k e =
     let here : get_or (set bound x (Some j)) x None ≡ Some j = get_or-set_same bound x (Some j) None k in
     record {
       placed = λ y q f. elim (cases_eq y x) [
-        | inl z ↦ let s : j ≡ q = some_same j q (sym here ∙ ap (λ (n : ℕ). get_or (set bound x (Some j)) n None) (sym z) ∙ f) in omega arith
+        | inl z ↦ let s : j ≡ q = cc in omega arith
         | inr n ↦ p y q (sym (get_or-set_other bound x y (Some j) None n) ∙ f)
       ];
       back = λ θ a. (
         λ y q f. elim (cases_eq y x) [
-          | inl z ↦ absurd (none-some q (sym e ∙ ap (λ (n : ℕ). get_or bound n None) (sym z) ∙ f))
+          | inl z ↦ cc
           | inr n ↦ a y q (get_or-set_other bound x y (Some j) None n ∙ f)
         ],
         a x j here,
       );
       on = λ θ a t y q f. elim (cases_eq y x) [
         | inl z ↦
-            let s : j ≡ q = some_same j q (sym here ∙ ap (λ (n : ℕ). get_or (set bound x (Some j)) n None) (sym z) ∙ f) in
+            let s : j ≡ q = cc in
             ap θ z ∙ t ∙ ap (word_at target) s
         | inr n ↦ a y q (sym (get_or-set_other bound x y (Some j) None n) ∙ f)
       ];
@@ -78,7 +72,7 @@ unfolding Below
 below_at n [] i x d b h e = absurd (omega arith)
 below_at n (Variable y ∷ nodes) zero x d b h e = let s : y ≡ x = cc in omega (arith, b.0)
 below_at n (Variable y ∷ nodes) (suc i) x d b h e = below_at n nodes i x d b.1 (omega arith) e
-below_at n (Applied s k ∷ nodes) zero x d b h e = absurd (let z : ◌≡◌ {A = ℕ} 0 1 = cc in omega arith)
+below_at n (Applied s k ∷ nodes) zero x d b h e = cc
 below_at n (Applied s k ∷ nodes) (suc i) x d b h e = below_at n nodes i x d b (omega arith) e
 
 pub below_more : (m n : ℕ) (nodes : List Node) → m ≤ n → Below m nodes → Below n nodes
@@ -112,7 +106,7 @@ app-parts s t us vs e = (cc, cc)
 pub turns-never : (x y : Node) (r s : List Node) → Whole (x ∷ r) → Whole (y ∷ s) → ((v : ℕ) → x ≡ Variable v → ⊥) → ¬ Fellows x y → (θ : ℕ → Word) → sub θ (hd (decode (x ∷ r))) ≡ hd (decode (y ∷ s)) → ⊥
 unfolding decode Whole
 turns-never (Variable v) y r s a b n f θ e = n v refl
-turns-never (Applied f k) (Variable y) r s a b n h θ e = let z : ◌≡◌ {A = ℕ} 0 1 = cc in omega arith
+turns-never (Applied f k) (Variable y) r s a b n h θ e = cc
 turns-never (Applied f k) (Applied g l) r s a b n h θ e =
     let us = first k (decode r) in
     let p = app-parts f g (subs θ us) (first l (decode s)) e in
@@ -245,8 +239,8 @@ agreeing target bound = (λ x. put target x (get_or bound x None), λ x q e. ap 
 -- where nothing is bound, every substitution agrees
 pub none-placed : (target : List Node) (n : ℕ) → Placed target (replicate n None)
 unfolding Placed
-none-placed target n x q e = absurd (none-some q (sym (none-bound n x) ∙ e))
+none-placed target n x q e = cc (none-bound n x)
 
 pub none-agrees : (target : List Node) (n : ℕ) (θ : ℕ → Word) → Agrees target (replicate n None) θ
 unfolding Agrees
-none-agrees target n θ x q e = absurd (none-some q (sym (none-bound n x) ∙ e))
+none-agrees target n θ x q e = cc (none-bound n x)

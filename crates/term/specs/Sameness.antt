@@ -1,7 +1,6 @@
 -- The equality of symbols and of nodes decides whether two are the same.
-use Rattle.std.proofs.Common.{◌≡◌, Decides, ap}
-use Rattle.std.proofs.lemmas.Bool.{and_parts, and_from}
-use Rattle.std.proofs.lemmas.Bool.Decides.{Decides-eqb}
+use Rattle.std.proofs.Common.{◌≡◌, Decides, ap, ap₂}
+use Rattle.std.proofs.lemmas.Bool.Decides.{Decides-and, Decides-eqb}
 use Rattle.term.specs.declared.node.Symbol.{Symbol}
 use Rattle.term.specs.declared.node.Symbol.TheVariants.{Function, Positive, Negative}
 use Rattle.term.specs.declared.node.Node.{Node}
@@ -18,9 +17,6 @@ same_symbol-Decides s t = (λ e. cc, λ e. cc)
 pub same_node-Decides : (x y : Node) → Decides (same_node.it x y) (x ≡ y)
 same_node-Decides (Variable x) (Variable y) = let d = Decides-eqb x y in (λ e. ap Variable (d.0 e), λ e. d.1 (cc))
 same_node-Decides (Applied s k) (Applied t l) =
-    let d = same_symbol-Decides s t in
-    let n = Decides-eqb k l in (
-      λ e. let h = and_parts _ _ e in let p : s ≡ t = d.0 h.0 in let q : k ≡ l = n.0 h.1 in cc,
-      λ e. and_from _ _ (d.1 (cc)) (n.1 (cc)),
-    )
+    let d = Decides-and _ _ (same_symbol-Decides s t) (Decides-eqb k l) in
+    (λ e. ap₂ Applied (d.0 e).0 (d.0 e).1, λ e. d.1 (cc, cc))
 same_node-Decides x y = (λ e. cc, λ e. cc)

@@ -1,6 +1,6 @@
-use Rattle.term.specs.declared.node.Node.{Node}
-use Rattle.std.proofs.Common.{List, ap, ℕ, ◌+◌, ◌-◌, length, sym, subst, arith}
+use Rattle.std.proofs.Common.{ℕ, ◌+◌, ◌-◌, List, length, sym, ap, subst, arith}
 use Rattle.std.proofs.lemmas.Bool.{both_ways}
+use Rattle.term.specs.declared.node.Node.{Node}
 use Rattle.term.specs.declared.node.Node.TheVariants.{Variable}
 use Rattle.term.specs.Matched.{Below}
 use Rattle.term.proofs.Walked.{walked-in}
