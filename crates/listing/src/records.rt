@@ -11,6 +11,7 @@ use super::numbers::sentence;
 use super::words::show_word;
 use record::{LiteralFault, Record, RecordFault};
 use std::alloc::{AllocError, Global};
+use term::WordAt;
 
 // Lists the record whose packed form the input is.
 pub fn list_record(heap: Global, input: &[u8]) -> Result<Listing<RecordFault>, AllocError>
@@ -41,9 +42,9 @@ pub fn show_record(heap: Global, clause: &Record) -> Result<String, AllocError>
     let starts = clause.starts();
     let mut text = String::new(heap);
     text.push_str("{")?;
-    for k in 0..starts.len() {
+    for (k, &start) in starts.iter().enumerate() {
         text.push_str(separator(k))?;
-        show_word(heap, &mut text, nodes, starts[k])?;
+        show_word(heap, &mut text, WordAt { nodes, start })?;
     }
     text.push_str("}")?;
     Ok(text)

@@ -15,14 +15,14 @@ loop-k-init c =
     let opened = c.in_ok-push_str.ensures.bytes ∙ ap (λ (t : List ℕ). t ++ codes "{") c.new-text.ensures.bytes in
     ap (λ (t : List ℕ). t ++ separated (λ (i : ℕ). shown (word_at c.nodes-nodes.result.now i)) 0 c.starts-starts.result.now) opened
 
-pub show_word-requires : goal.show_word-requires
-show_word-requires c =
+pub invariant_of-show_word : goal.invariant_of-show_word
+invariant_of-show_word c =
     let ls = literals c.args.clause.now in
     let nodes = c.nodes-nodes.result.now in
     let starts = c.starts-starts.result.now in
     let same = c.nodes-nodes.ensures.value in
     let inside = subst (Inside (length nodes)) (sym c.starts-starts.ensures) (inside-begins 0 (length nodes) ls (omega (arith, ap length same, length-codes ls))) in
-    (subst Whole (sym same) (whole-all ls), inside-at (length nodes) starts c.loop-k.k inside c.loop-k-test.true)
+    record { whole = subst Whole (sym same) (whole-all ls); inside = inside-at (length nodes) starts c.loop-k.k inside c.loop-k-test.true }
 
 pub loop-k-preserved : goal.loop-k-preserved
 loop-k-preserved c =
