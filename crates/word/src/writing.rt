@@ -1,7 +1,8 @@
 // Writes nodes into a lent buffer.
 ghost use Rattle.std.specs.Prelude.{◌≡◌, ◌+◌, ◌≤◌, ◌++◌, length, take, drop, IfOk, Ok};
+ghost use Rattle.number.specs.Writes.{Wrote};
 ghost use Rattle.word.specs.Packed.{packed_symbol, packed_node, packed, symbol_number, node_number, Writable};
-ghost use Rattle.word.specs.Writes.{Wrote, Back};
+ghost use Rattle.word.specs.Writes.{Back};
 
 use number::NoRoom;
 use term::{Node, Symbol};
