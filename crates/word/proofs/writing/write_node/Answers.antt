@@ -1,25 +1,9 @@
-use Rattle.std.proofs.Common.{◌≡◌, ◌+◌, ◌*◌, ◌≤◌, ◌++◌, length, Ok, sym, ap, ◌∙◌, arith, length-append}
+use Rattle.std.proofs.Common.{◌≡◌, ◌+◌, ◌++◌, length, Ok, sym, ap, ◌∙◌, arith, length-append}
 use Rattle.number.specs.Forms.{form}
 use Rattle.number.proofs.Puts.{puts, puts-is}
 use Rattle.word.specs.Packed.{packed_node}
 use Rattle.word.proofs.Puts.{wrote-puts, two-puts, length-puts}
 use Rattle.word.proofs.writing.write_node.Goals as goal
-
-pub returns-in-Variable : goal.returns-in-Variable
-returns-in-Variable c =
-    let out = c.args.out.now in
-    let at = c.args.at in
-    let node = c.args.node in
-    let bytes : packed_node node ≡ form (2 * c.in-Variable.x) = ap packed_node c.in-Variable.is in
-    let room : at + length (form (2 * c.in-Variable.x)) ≤ length out = rw bytes at c.requires.room in
-    let p = wrote-puts _ at out c.write.result c.write.new.out c.write.ensures.wrote room in
-    record { place = rw bytes p.0; puts = rw bytes (p.1 ∙ puts-is out at (form (2 * c.in-Variable.x)) room) }
-
-pub returns-in_err-next-in-Applied : goal.returns-in_err-next-in-Applied
-returns-in_err-next-in-Applied c =
-    let bytes : packed_node c.args.node ≡ form c.packed_symbol.result ++ form c.in-Applied.places = ap packed_node c.in-Applied.is ∙ ap (λ n. form n ++ form c.in-Applied.places) (sym c.packed_symbol.ensures) in
-    let long = ap length bytes ∙ length-append (form c.packed_symbol.result) (form c.in-Applied.places) in
-    absurd (omega (arith, c.in_err-next-in-Applied.ensures.wrote.0, c.requires.room))
 
 pub returns-in_ok-next-in-Applied : goal.returns-in_ok-next-in-Applied
 returns-in_ok-next-in-Applied c =
