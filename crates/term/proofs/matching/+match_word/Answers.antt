@@ -2,7 +2,7 @@ use Rattle.std.proofs.Common.{◌+◌, ◌-◌, length, arith}
 use Rattle.std.proofs.lemmas.Bool.{both_ways}
 use Rattle.term.specs.declared.node.Node.TheVariants.{Variable}
 use Rattle.term.proofs.Walked.{walked-in}
-use Rattle.term.proofs.Matchings.{below_at, match-variable, match-variable-never, match-never, going-first, going-last, going-stops}
+use Rattle.term.proofs.Matchings.{below_at, match-variable, match-variable-never, match-never, going_on, going-first, going-last, going-stops}
 use Rattle.term.proofs.matching.+match_word.Goals as goal
 
 pub bind-requires : goal.bind-requires
@@ -41,6 +41,11 @@ pub returns-in_err-p : goal.returns-in_err-p
 returns-in_err-p t c =
     rw c.from_residual.ensures (going-stops c.args.pattern c.args.target
     (c.fellows.ensures.0 c.if-not-fellows.false) c.places-end.result c.places-end.ensures.value (c.places-end.result - c.loop.counter) c.loop.p c.loop.q c.args.bound.now c.loop.bound c.match_word.new.bound (omega arith) c.loop.invariant (rw (c.at.ensures.nodes, c.at.ensures.start, c.at-in-loop.ensures.nodes, c.at-in-loop.ensures.start) at c.in_err-p.ensures))
+
+pub loop-preserved : goal.loop-preserved
+loop-preserved t c =
+    going_on c.args.pattern.nodes.now c.args.target.nodes.now c.places-end.result (c.places-end.result - c.loop.counter) c.loop.p c.loop.q c.loop.bound (c.args.pattern.start + 1) (c.args.target.start + 1) c.args.bound.now (omega arith) c.loop.invariant
+    _ _ _ _ (omega arith) (rw (c.at.ensures.nodes, c.at.ensures.start, c.at-in-loop.ensures.nodes, c.at-in-loop.ensures.start) at c.in_ok-p.ensures)
 
 pub returns : goal.returns
 returns t c =
