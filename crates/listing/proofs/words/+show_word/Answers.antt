@@ -1,6 +1,5 @@
-use Rattle.std.proofs.Common.{◌≡◌, ℕ, ◌+◌, ◌-◌, List, ◌++◌, length, get_or, string_bytes, refl, ap, ◌∙◌, arith}
+use Rattle.std.proofs.Common.{◌≡◌, ℕ, ◌+◌, ◌-◌, List, ◌++◌, get_or, string_bytes, refl, ap, ◌∙◌, arith}
 use Rattle.std.proofs.lemmas.Slice.{pushed}
-use Rattle.term.specs.declared.node.Node.{Node}
 use Rattle.term.specs.declared.node.Node.TheVariants.{Variable}
 use Rattle.term.proofs.Walked.{walked-in}
 use Rattle.listing.specs.Shown.{node_name, opening, closing}
@@ -13,11 +12,6 @@ loop-n-init t c =
 
 pub at-requires : goal.at-requires
 at-requires t c = walked-in c.args.word.nodes.now c.places-count.result (c.places-count.result - c.loop-n.n) c.loop-n.at (c.args.word.start + 1) (omega arith) c.loop-n.invariant.walked
-
-pub show_word-requires : goal.show_word-requires
-show_word-requires t c =
-    let later = c.loop-n.invariant.walked.from in
-    omega (arith, ap (λ (l : List Node). length l) c.at.ensures.nodes)
 
 pub loop-n-preserved : goal.loop-n-preserved
 loop-n-preserved t c =
