@@ -1,26 +1,47 @@
 // The line of a fault that has layers.
-ghost use Rattle.std.specs.Prelude.{◌≡◌, IfOk, string_bytes};
-ghost use Rattle.listing.specs.FaultLines.{literal_part, word_sentence, layered_line};
-ghost use Rattle.listing.specs.PlaceLines.{layer_name, layer_names};
+ghost use Rattle.std.specs.Prelude.{◌≡◌, ℕ, List, Option, IfOk, string_bytes};
+ghost use Rattle.word.specs.declared.fault.Layer.{Layer as AnyLayer};
+ghost use Rattle.listing.specs.FaultLines.{layer_name, layer_names, literal_part, layered_line, word_sentence};
 ghost use Rattle.listing.specs.Shown.{separator};
 
 use super::numbers::sentence;
 use std::alloc::{AllocError, Global};
 use word::{Layer, WordFault};
 
+// Where a fault arose: its question, its byte, the literal in hand, and what was being read.
+#[derive(Clone, Copy)]
+pub(super) struct Origin {
+    pub question: u8,
+    pub byte: usize,
+    pub literal: Option<usize>,
+    pub layers: &'static [Layer],
+}
+
+// A fault that has layers.
+pub(super) trait Layered: Drop {
+    ghost tells: { Self → ℕ × ℕ × Option ℕ × List AnyLayer };
+
+    ghost says: { Self → List ℕ };
+
+    fn origin(&self) -> Origin
+        ensures { (result.question, result.byte, result.literal, result.layers.now) ≡ tells self.now };
+
+    // What is wrong, in words.
+    fn why(&self) -> &'static str
+        ensures { result.now ≡ says self.now };
+}
+
 // The line of a fault: its question, its byte, the literal in hand, its layers, and what is wrong.
-pub(super) fn layered_line(
-    heap: Global,
-    question: u8,
-    byte: usize,
-    literal: Option<usize>,
-    layers: &[Layer],
-    why: &str,
-) -> Result<String, AllocError>
-    ensures { IfOk result (λ s. string_bytes s ≡ layered_line question byte literal layers.now why.now) }
+#[tactic(auto, unfolding(crate::specs::FaultLines::layered_line))]
+pub(super) fn layered_line<F: Layered>(heap: Global, fault: &F) -> Result<String, AllocError>
+    ensures { IfOk result (λ s. string_bytes s ≡ layered_line (F.tells fault.now) (F.says fault.now)) }
 {
-    let part = literal_part(heap, literal)?;
-    let names = layer_names(heap, layers)?;
+    let origin = fault.origin();
+    let question = origin.question;
+    let byte = origin.byte;
+    let part = literal_part(heap, origin.literal)?;
+    let names = layer_names(heap, origin.layers)?;
+    let why = fault.why();
     format!(in heap; "fault {question} at byte {byte}{part} in {names}: {why}\n")
 }
 
@@ -39,9 +60,9 @@ fn layer_names(heap: Global, layers: &[Layer]) -> Result<String, AllocError>
     ensures { IfOk result (λ s. string_bytes s ≡ layer_names layers.now) }
 {
     let mut text = String::new(heap);
-    for k in 0..layers.len() {
+    for (k, layer) in layers.iter().enumerate() {
         text.push_str(separator(k))?;
-        text.push_str(layer_name(layers[k]))?;
+        text.push_str(layer_name(*layer))?;
     }
     Ok(text)
 }

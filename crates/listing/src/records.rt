@@ -1,12 +1,13 @@
 // Records in legible form, as {p1(X0), -q2(a3)}, and the listing of one.
 ghost use Rattle.std.specs.Prelude.{◌≡◌, IfOk, string_bytes};
+ghost use Rattle.record.specs.Faults.{told};
 ghost use Rattle.record.specs.Reads.{read_record};
 ghost use Rattle.record.specs.Records.{literals};
-ghost use Rattle.listing.specs.RecordLines.{literal_sentence, record_sentence, record_fault_line, record_listed};
+ghost use Rattle.listing.specs.RecordLines.{literal_sentence, record_sentence, record_listed};
 ghost use Rattle.listing.specs.Shown.{shown_clause};
 
 use super::Listing;
-use super::faults::{layered_line, separator, word_sentence};
+use super::faults::{Layered, Origin, separator, word_sentence};
 use super::numbers::sentence;
 use super::words::show_word;
 use record::{LiteralFault, Record, RecordFault};
@@ -18,18 +19,8 @@ pub fn list_record(heap: Global, input: &[u8]) -> Result<Listing<RecordFault>, A
 {
     let mut record = Record::new();
     match record.read(input) {
-        Ok(()) => {
-            let mut text = show_record(heap, &record)?;
-            text.push_str("\n")?;
-            Ok(Listing { text, fault: None })
-        }
-        Err(fault) => {
-            let text = record_fault_line(heap, &fault)?;
-            Ok(Listing {
-                text,
-                fault: Some(fault),
-            })
-        }
+        Ok(()) => Listing::whole(heap, &show_record(heap, &record)?),
+        Err(fault) => Listing::refused(heap, fault),
     }
 }
 
@@ -41,38 +32,35 @@ pub fn show_record(heap: Global, clause: &Record) -> Result<String, AllocError>
     let starts = clause.starts();
     let mut text = String::new(heap);
     text.push_str("{")?;
-    for k in 0..starts.len() {
+    for (k, start) in starts.iter().enumerate() {
         text.push_str(separator(k))?;
-        show_word(heap, &mut text, nodes, starts[k])?;
+        show_word(heap, &mut text, nodes, *start)?;
     }
     text.push_str("}")?;
     Ok(text)
 }
 
-// The line of a fault.
-fn record_fault_line(heap: Global, fault: &RecordFault) -> Result<String, AllocError>
-    ensures { IfOk result (λ s. string_bytes s ≡ record_fault_line fault.now) }
-{
-    let why = record_sentence(fault);
-    layered_line(
-        heap,
-        fault.question(),
-        fault.byte(),
-        fault.literal(),
-        fault.layers(),
-        why,
-    )
-}
+impl Layered for RecordFault {
+    ghost tells = { told };
 
-// What is wrong, in words.
-fn record_sentence(fault: &RecordFault) -> &'static str
-    ensures { result.now ≡ record_sentence fault.now }
-{
-    match fault {
-        RecordFault::Number(number) => sentence(number),
-        RecordFault::Literals { first: _ } => "there are more than 16 literals",
-        RecordFault::Literal(place) => literal_sentence(&place.fault),
-        RecordFault::Left { first: _ } => "bytes are left over",
+    ghost says = { record_sentence };
+
+    fn origin(&self) -> Origin {
+        Origin {
+            question: self.question(),
+            byte: self.byte(),
+            literal: self.literal(),
+            layers: self.layers(),
+        }
+    }
+
+    fn why(&self) -> &'static str {
+        match self {
+            RecordFault::Number(number) => sentence(number),
+            RecordFault::Literals { first: _ } => "there are more than 16 literals",
+            RecordFault::Literal(place) => literal_sentence(&place.fault),
+            RecordFault::Left { first: _ } => "bytes are left over",
+        }
     }
 }
 

@@ -1,13 +1,9 @@
 use Rattle.std.proofs.Common.{ℕ, List, ◌++◌, string_bytes, refl, ap, ◌∙◌}
 use Rattle.std.proofs.lemmas.Slice.{pushed}
 use Rattle.word.specs.declared.fault.Layer.TheVariants as layer
-use Rattle.listing.specs.PlaceLines.{layer_name, layer_names}
-use Rattle.listing.specs.Shown.{separated}
-use Rattle.listing.proofs.Separated.{one_more, none_left, separated-layers}
+use Rattle.listing.specs.FaultLines.{layer_name, layer_names}
+use Rattle.listing.proofs.Separated.{one_more, none_left}
 use Rattle.listing.proofs.faults.layer_names.Goals as goal
-
-pub loop-k-init : goal.loop-k-init
-loop-k-init c = ap (λ (t : List ℕ). t ++ separated layer_name 0 c.args.layers.now) c.new-text.ensures.bytes ∙ separated-layers c.args.layers.now
 
 pub loop-k-preserved : goal.loop-k-preserved
 loop-k-preserved c =
