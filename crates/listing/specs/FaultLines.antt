@@ -1,5 +1,5 @@
 -- The line of a fault that has layers, and the listing of one thing.
-use Rattle.std.specs.Prelude.{ℕ, List, [], ◌∷◌, ◌++◌, Some, None, Ok, Err, codes, decimal, Option, Result}
+use Rattle.std.specs.Prelude.{ℕ, List, ◌++◌, Some, None, Ok, Err, codes, decimal, Option, Result}
 use Rattle.word.specs.declared.fault.Layer.{Layer}
 use Rattle.word.specs.declared.fault.Layer.TheVariants as layer
 use Rattle.word.specs.declared.fault.WordFault.{WordFault}

@@ -1,5 +1,5 @@
 -- The listing of a place word.
-use Rattle.std.specs.Prelude.{ℕ, List, ◌++◌, None, codes, Option, Result}
+use Rattle.std.specs.Prelude.{ℕ, List, None, codes, Option, Result}
 use Rattle.term.specs.declared.node.Node.{Node}
 use Rattle.term.specs.Coding.{hd, decode}
 use Rattle.word.specs.declared.fault.Layer.{Layer}

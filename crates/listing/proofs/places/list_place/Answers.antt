@@ -1,4 +1,4 @@
-use Rattle.std.proofs.Common.{◌≡◌, ℕ, List, ◌++◌, string_bytes, codes, None, sym, refl, ap, ◌∙◌}
+use Rattle.std.proofs.Common.{◌≡◌, ◌++◌, codes, None, sym, refl, ap, ◌∙◌}
 use Rattle.term.specs.Coding.{code, hd, decode}
 use Rattle.term.proofs.Codings.{meant}
 use Rattle.place.specs.Packing.{read_place}

@@ -1,4 +1,4 @@
-use Rattle.std.proofs.Common.{◌≡◌, ◌++◌, codes, None, sym, refl, ap, ◌∙◌}
+use Rattle.std.proofs.Common.{◌≡◌, ◌++◌, codes, None, sym, ap, ◌∙◌}
 use Rattle.record.specs.Reads.{read_record}
 use Rattle.record.specs.Records.{literals}
 use Rattle.record.proofs.Forms.{read-gave, read-refused}

@@ -10,11 +10,6 @@ use Rattle.listing.specs.Shown.{separated, shown, each, shown_clause}
 use Rattle.listing.proofs.Separated.{one_more, none_left, separated-words}
 use Rattle.listing.proofs.records.show_record.Goals as goal
 
-pub loop-k-init : goal.loop-k-init
-loop-k-init c =
-    let opened = c.in_ok-push_str.ensures.bytes ∙ ap (λ (t : List ℕ). t ++ codes "{") c.new-text.ensures.bytes in
-    ap (λ (t : List ℕ). t ++ separated (λ (i : ℕ). shown (word_at c.nodes-nodes.result.now i)) 0 c.starts-starts.result.now) opened
-
 pub show_word-requires : goal.show_word-requires
 show_word-requires c =
     let ls = literals c.args.clause.now in
