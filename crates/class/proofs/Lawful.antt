@@ -45,7 +45,7 @@ module _ {Thing : Type 0} (k : Subject Thing) (laws : Laws k) where
   step ms (gathers c) issue (gathers d) H w = elim w [ ]
   step ms (gathers c) issue (issued i) H w = (tt, stays ms (gathers c) (issued i) H w.rule w.count)
   step ms (issued i) (admit x r) u H w = elim w [ ]
-  step ms (issued i) (fits x b) u H w = (shared b (k.means i.rule) x ms H.least w.0, subst (Holds k ms) (sym w.1) H)
+  step ms (issued i) (fits x b) u H w = (shared b (k.means i.class.rule) x ms H.least w.0, subst (Holds k ms) (sym w.1) H)
   step ms (issued i) issue u H w = elim w [ ]
 
   run : (ms : List k.member) (s : State Thing) (calls : List (Call Thing)) (t : State Thing) → Holds k ms s → Run k s calls t → Answered k ms calls × Holds k (taken k ms calls) t

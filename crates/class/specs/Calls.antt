@@ -7,8 +7,8 @@ use Rattle.class.specs.Kinds.{Subject, Covers, Tidied, Joined}
 
 -- an issued class keeps what the gathering one held
 pub record Kept {Thing : Type 0} (c : Class Thing) (i : Issued Thing) : Type 0 where
-  pub rule : i.rule ≡ c.rule
-  pub count : i.count ≡ c.count
+  pub rule : i.class.rule ≡ c.rule
+  pub count : i.class.count ≡ c.count
 
 module _ {Thing : Type 0} (k : Subject Thing) where
   pub record Begun (x : Thing) (c : Class Thing) : Type 0 where

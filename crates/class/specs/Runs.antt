@@ -19,11 +19,11 @@ pub data State (Thing : Type 0) : Type 0 where
 
 abbrev pub rule : {Thing : Type 0} → State Thing → Thing
 rule (gathers c) = c.rule
-rule (issued i) = i.rule
+rule (issued i) = i.class.rule
 
 abbrev pub count : {Thing : Type 0} → State Thing → ℕ
 count (gathers c) = c.count
-count (issued i) = i.count
+count (issued i) = i.class.count
 
 module _ {Thing : Type 0} (k : Subject Thing) where
   -- one call, as its contract has it; an issued class meets no admit and no issue
@@ -34,7 +34,7 @@ module _ {Thing : Type 0} (k : Subject Thing) where
   Step (gathers c) issue (gathers d) = ⊥
   Step (gathers c) issue (issued i) = Kept c i
   Step (issued i) (admit x r) s = ⊥
-  Step (issued i) (fits x b) s = Decides b (Covers k i.rule x) × (s ≡ issued i)
+  Step (issued i) (fits x b) s = Decides b (Covers k i.class.rule x) × (s ≡ issued i)
   Step (issued i) issue s = ⊥
 
   -- calls one after the other

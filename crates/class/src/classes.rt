@@ -13,11 +13,10 @@ pub struct Class<K> {
     count: u32,
 }
 
-// A class whose gathering has ended.
+// A class whose gathering has ended: the gathering one, moved here whole.
 #[derive(Drop)]
 pub struct Issued<K> {
-    rule: K,
-    count: u32,
+    class: Class<K>,
 }
 
 impl<K: Kind> Class<K> {
@@ -53,37 +52,35 @@ impl<K: Kind> Class<K> {
     pub fn issue(self) -> Issued<K>
         ensures { Kept self result }
     {
-        let Class { rule, count } = self;
-        Issued { rule, count }
+        Issued { class: self }
     }
 }
 
 impl<K: Kind> Issued<K> {
     // Whether the rule covers a mount.
     pub fn fits(&self, mount: &K) -> bool
-        ensures { Decides result (Covers K.kind self.now.rule mount.now) }
+        ensures { Decides result (Covers K.kind self.now.class.rule mount.now) }
     {
-        self.rule().covers(mount)
+        self.class.fits(mount)
     }
 
     pub fn rule(&self) -> &K
-        ensures { result.now ≡ self.now.rule }
+        ensures { result.now ≡ self.now.class.rule }
     {
-        &self.rule
+        &self.class.rule
     }
 
     pub fn count(&self) -> u32
-        ensures { result ≡ self.now.count }
+        ensures { result ≡ self.now.class.count }
     {
-        let Issued { rule: _, count } = self;
-        *count
+        self.class.count
     }
 
     // Hands out the rule and the count.
     pub fn into_parts(self) -> (K, u32)
-        ensures { result ≡ (self.rule, self.count) }
+        ensures { result ≡ (self.class.rule, self.class.count) }
     {
-        let Issued { rule, count } = self;
+        let Class { rule, count } = self.class;
         (rule, count)
     }
 }

@@ -2,7 +2,8 @@
 ghost use Rattle.std.specs.Prelude.{Decides};
 ghost use Rattle.class.specs.Kinds.{Subject, Laws, Covers, Tidied, Joined};
 
-// Why two things have no join within the limit.
+// Why two things have no join within the limit. A number and no enum: every kind states its own, and an enum here would have
+// to know the reasons of all kinds, those to come too.
 #[derive(Clone, Copy, PartialEq, Debug)]
 pub struct Refusal {
     pub number: u8,

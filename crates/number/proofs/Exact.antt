@@ -103,3 +103,10 @@ read_none input at h = ap (λ (rest : List ℕ). first rest at (length input)) (
 pub read-rest : (input : List ℕ) (at : ℕ) → first (between at (length input) input) at (length input) ≡ read_number input at
 unfolding read_number
 read-rest input at = ap (λ (rest : List ℕ). first rest at (length input)) (take_rest input at)
+
+-- the number that stands somewhere
+pub number-stands : (input : List ℕ) (at : ℕ) → ((i : ℕ) → get_or input i 0 < 256) → (p : ℕ × ℕ) → read_number input at ≡ Ok p
+    → (at < p.1) × (p.1 ≤ length input) × (p.0 ≤ 65535) × (between at p.1 input ≡ form p.0)
+number-stands input at bytes p e =
+    let x = exactly input at bytes (Ok p) (sym e) in
+    (x.0, x.1, x.2.range, again input at (Ok p) x)

@@ -1,6 +1,9 @@
 // Why a number was not read or not written.
-ghost use Rattle.std.specs.Prelude.{◌≡◌};
-ghost use Rattle.number.specs.Faults.{told, no_room};
+ghost use Rattle.std.specs.Prelude.{◌≡◌, Some};
+ghost use Rattle.number.specs.Faults.{told, sentence, no_room};
+
+use std::error::Error;
+use std::fmt;
 
 // The first question of the reader that was answered with no.
 #[derive(Clone, Copy, PartialEq, Debug)]
@@ -36,6 +39,22 @@ impl NumberFault {
         }
     }
 }
+
+// What is wrong, in words.
+impl fmt::Display for NumberFault {
+    ghost output = { λ fault. Some (sentence fault) };
+
+    fn fmt<W: fmt::Write>(&self, f: &mut fmt::Formatter<W>) -> fmt::Result {
+        let text = match self {
+            NumberFault::Missing { end: _ } => "the input ends within a number",
+            NumberFault::TooLarge { first: _ } => "the third byte of a number is not below 4",
+            NumberFault::Padded { first: _ } => "the last byte of a number of several bytes is 0",
+        };
+        f.write_str(text)
+    }
+}
+
+impl Error for NumberFault {}
 
 // The buffer does not hold the form.
 #[derive(Clone, Copy, PartialEq, Debug)]

@@ -1,6 +1,6 @@
 // Writes a packed number into a lent buffer.
 ghost use Rattle.std.specs.Prelude.{◌≡◌, IfOk, Ok};
-ghost use Rattle.number.specs.Forms.{OneForm};
+ghost use Rattle.number.specs.Forms.{form, OneForm};
 ghost use Rattle.number.specs.Reads.{read_number};
 ghost use Rattle.number.specs.Writes.{Wrote};
 
@@ -8,7 +8,7 @@ use super::{NoRoom, form_length};
 
 // Writes the form of `value` at `at`, and answers the place after it.
 pub fn write(out: &mut [u8], at: usize, value: u16) -> Result<usize, NoRoom>
-    ensures wrote { Wrote value at out.old result out.new }
+    ensures wrote { Wrote (form value) at out.old result out.new }
     ensures back { IfOk result (λ to. read_number out.new at ≡ Ok (value, to)) }
     ensures one { OneForm }
 {
@@ -18,8 +18,8 @@ pub fn write(out: &mut [u8], at: usize, value: u16) -> Result<usize, NoRoom>
     }
     let last = at + length - 1;
     let mut rest = value;
-    for i in at..last {
-        out[i] = 128 + (rest % 128) as u8;
+    for byte in &mut out[at..last] {
+        *byte = 128 + (rest % 128) as u8;
         rest /= 128;
     }
     out[last] = rest as u8;

@@ -10,8 +10,9 @@ use Rattle.word.specs.declared.fault.WordFault.{WordFault}
 use Rattle.word.specs.Packed.{packed, seen_after}
 use Rattle.word.specs.Reads.{read_words, Gives, Added}
 use Rattle.word.proofs.Laws.{lawful-writable}
-use Rattle.number.proofs.Answers.{clash, ok_same}
+use Rattle.number.proofs.Answers.{clash}
 use Rattle.word.proofs.Back.{reads-packed}
+use Rattle.word.proofs.Turns.{gave-fault, gave-words}
 use Rattle.place.specs.declared.fault.PlaceFault.{PlaceFault}
 use Rattle.place.specs.declared.fault.PlaceFault.TheVariants.{Word, Left}
 use Rattle.place.specs.declared.placed.PlaceWord.{PlaceWord}
@@ -26,16 +27,6 @@ module _ (input : List ℕ) where
 
   from-none : (new : List Node) → new ≡ [] → read_words 1 (64 - length new) 0 input 0 new ≡ words
   from-none new e = ap (λ (l : List Node). read_words 1 (64 - length l) 0 input 0 l) e
-
-  gave-fault : (R : Result (List Node × ℕ × ℕ) WordFault) (before after : List Node) (fault : WordFault) → Gives R before (Err fault) after → R ≡ Err fault
-  gave-fault (Ok p) before after fault g = absurd (clash fault (p.1, p.2) g.0)
-  gave-fault (Err d) before after fault g = let h = g.0 in let e : fault ≡ d = cc in ap Err (sym e)
-
-  gave-words : (R : Result (List Node × ℕ × ℕ) WordFault) (before after : List Node) (end seen : ℕ) → Gives R before (Ok (end, seen)) after → R ≡ Ok (after, end, seen)
-  gave-words (Ok p) before after end seen g =
-      let e : (p.1, p.2) ≡ (end, seen) = sym (ok_same (end, seen) (p.1, p.2) g.0) in
-      λ i. Ok (sym g.1 i, (e i).0, (e i).1)
-  gave-words (Err d) before after end seen g = absurd (clash d (end, seen) (sym g.0))
 
   -- the questions after it
   read-fault : (fault : WordFault) → words ≡ Err fault → read_place input ≡ Err (Word fault)
@@ -73,11 +64,11 @@ refused input before fault e = record { value = subst (λ (R : Result (List Node
 
 module _ (input : List ℕ) (before : PlaceWord) (new nodes : List Node) (none : new ≡ []) where
   pub answer-fault : (fault : WordFault) → Gives (read_words 1 (64 - length new) 0 input 0 new) new (Err fault) nodes → Answer input before (Err (Word fault)) before
-  answer-fault fault g = refused input before (Word fault) (read-fault input fault (sym (from-none input new none) ∙ gave-fault input (read_words 1 (64 - length new) 0 input 0 new) new nodes fault g))
+  answer-fault fault g = refused input before (Word fault) (read-fault input fault (sym (from-none input new none) ∙ (gave-fault (read_words 1 (64 - length new) 0 input 0 new) new nodes fault g).0))
 
   module _ (end seen : ℕ) (g : Gives (read_words 1 (64 - length new) 0 input 0 new) new (Ok (end, seen)) nodes) where
     gave : read_words 1 64 0 input 0 [] ≡ Ok (nodes, end, seen)
-    gave = sym (from-none input new none) ∙ gave-words input (read_words 1 (64 - length new) 0 input 0 new) new nodes end seen g
+    gave = sym (from-none input new none) ∙ gave-words (read_words 1 (64 - length new) 0 input 0 new) new nodes end seen g
 
     pub answer-left : end < length input → Answer input before (Err (Left end)) before
     answer-left h = refused input before (Left end) (read_left input nodes end seen gave h)

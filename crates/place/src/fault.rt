@@ -1,8 +1,10 @@
 // Why a place word was not read.
-ghost use Rattle.std.specs.Prelude.{◌≡◌};
+ghost use Rattle.std.specs.Prelude.{◌≡◌, Some};
 ghost use Rattle.place.specs.declared.fault.PlaceFault.TheVariants.{Word};
-ghost use Rattle.place.specs.Faults.{told};
+ghost use Rattle.place.specs.Faults.{told, sentence};
 
+use std::error::Error;
+use std::fmt;
 use word::{Layer, WordFault};
 
 // The first question of the reader that was answered with no.
@@ -58,3 +60,19 @@ impl PlaceFault {
         }
     }
 }
+
+// What is wrong, in words.
+impl fmt::Display for PlaceFault {
+    ghost output = { λ fault. Some (sentence fault) };
+
+    fn fmt<W: fmt::Write>(&self, f: &mut fmt::Formatter<W>) -> fmt::Result {
+        match self {
+            PlaceFault::Word(WordFault::Nodes { first: _ }) =>
+                f.write_str("the word has more than 64 nodes"),
+            PlaceFault::Word(fault) => fault.fmt(f),
+            PlaceFault::Left { first: _ } => f.write_str("bytes are left over"),
+        }
+    }
+}
+
+impl Error for PlaceFault {}

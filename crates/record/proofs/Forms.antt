@@ -8,16 +8,16 @@ use Rattle.number.specs.declared.fault.NumberFault.{NumberFault}
 use Rattle.number.specs.declared.fault.NoRoom.{NoRoom}
 use Rattle.number.specs.Forms.{form}
 use Rattle.number.specs.Reads.{read_number}
-use Rattle.number.specs.Writes as numbers
+use Rattle.number.specs.Writes.{Wrote}
+use Rattle.number.proofs.Exact.{number-stands}
 use Rattle.number.proofs.Answers.{clash, ok_same}
 use Rattle.number.proofs.Puts.{puts-is}
 use Rattle.term.specs.Coding.{code, codes}
 use Rattle.term.specs.Words.{Words, nil, cons, ◌+++◌, len}
 use Rattle.term.proofs.Codings.{all_words}
 use Rattle.word.specs.Packed.{packed}
-use Rattle.word.specs.Writes.{Wrote}
 use Rattle.word.proofs.Laws.{packed_none, packed-append, between_join}
-use Rattle.word.proofs.Puts.{number-puts}
+use Rattle.word.proofs.Puts.{wrote-puts}
 use Rattle.word.proofs.Turns.{then-made}
 use Rattle.record.specs.declared.clause.Record.{Record}
 use Rattle.record.specs.declared.fault.RecordFault.{RecordFault}
@@ -25,7 +25,6 @@ use Rattle.record.specs.declared.fault.RecordFault.TheVariants.{Number, Literals
 use Rattle.record.specs.Records.{literals}
 use Rattle.record.specs.Reads.{read_literal, in_literal, read_literals, Builds, read_record, clause_form, Reads, Exactly}
 use Rattle.record.proofs.Held.{held}
-use Rattle.record.proofs.Words.{number-stands}
 use Rattle.record.proofs.Literals.{literal-added}
 use Rattle.record.proofs.Places.{push-more}
 use Rattle.record.proofs.Back.{reads-back}
@@ -154,7 +153,7 @@ module _ (count : ℕ) (others before mid : List ℕ) (at : ℕ) (start : at ≡
   pub no_room : (e : NoRoom) → Wrote others at before (Err e) mid → Wrote (form count ++ others) 0 before (Err e) mid
   no_room e w = (omega (arith, w.0, long), w.1)
 
-  pub both-wrote : (end : ℕ) → Wrote others at before (Ok end) mid → (r : Result ℕ NoRoom) (after : List ℕ) → numbers.Wrote count 0 mid r after → Wrote (form count ++ others) 0 before (Ok end) after
+  pub both-wrote : (end : ℕ) → Wrote others at before (Ok end) mid → (r : Result ℕ NoRoom) (after : List ℕ) → Wrote (form count) 0 mid r after → Wrote (form count ++ others) 0 before (Ok end) after
   both-wrote end w r after v =
       let first = form count in
       let size : length (take at before) ≡ at = length-take-le at before (omega (arith, w.0, w.1)) in
@@ -162,7 +161,7 @@ module _ (count : ℕ) (others before mid : List ℕ) (at : ℕ) (start : at ≡
       ap length w.2 ∙ length-append (take at before) (others ++ drop end before) ∙ omega (arith, size, length-append others (drop end before), length-drop end before, w.0, w.1) in
       let fits : 0 + length first ≤ length mid = omega (arith, w.0, w.1) in
       let begins : 0 + length first ≡ at = omega arith in
-      let put = (number-puts count 0 mid r after v fits).1 ∙ puts-is mid 0 first fits in
+      let put = (wrote-puts (form count) 0 mid r after v fits).1 ∙ puts-is mid 0 first fits in
       let rest : drop (0 + length first) mid ≡ others ++ drop end before =
       ap₂ drop begins w.2 ∙ drop_at (take at before) (others ++ drop end before) at size in
       (omega (arith, w.0, long), w.1, put ∙ ap (λ (l : List ℕ). first ++ l) rest ∙ sym (append_assoc first others (drop end before)))

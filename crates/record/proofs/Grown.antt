@@ -21,7 +21,8 @@ use Rattle.record.specs.declared.fault.LiteralFault.TheVariants.{Word as InWord,
 use Rattle.record.specs.declared.literal.Head.{Head}
 use Rattle.record.specs.Clauses.{variables, stands, begins}
 use Rattle.record.specs.Reads.{words_from, Inside, head_at, differs, read_literal, Grows}
-use Rattle.record.proofs.Words.{gave-fault, gave-words, words-alone, fault-alone, seen_all}
+use Rattle.word.proofs.Turns.{gave-fault, gave-words}
+use Rattle.record.proofs.Words.{words-alone, fault-alone, seen_all}
 use Rattle.record.proofs.Literals.{head-room}
 use Rattle.record.proofs.Tests.{varss-push}
 use Rattle.record.proofs.Places.{inside-begins, from-begins}

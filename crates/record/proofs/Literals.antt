@@ -24,7 +24,7 @@ use Rattle.record.specs.declared.fault.LiteralFault.TheVariants.{Number as InNum
 use Rattle.record.specs.declared.literal.Head.{Head}
 use Rattle.record.specs.Clauses.{predicative, Literal, variables, stands}
 use Rattle.record.specs.Reads.{predicate_of, head_at, read_literal}
-use Rattle.record.proofs.Words.{number-stands}
+use Rattle.number.proofs.Exact.{number-stands}
 
 -- the predicate of a first number: its form is that number's
 pub predicate-number : (value : ℕ) → packed_symbol (predicate_of value) ≡ value

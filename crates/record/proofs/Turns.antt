@@ -1,5 +1,5 @@
 -- Reading literals, one after the other.
-use Rattle.std.proofs.Common.{◌≡◌, ℕ, zero, suc, ◌-◌, ◌<◌, List, Ok, Err, Result, sym, refl, ap, ◌∙◌, sub-one, arith}
+use Rattle.std.proofs.Common.{◌≡◌, ℕ, zero, suc, ◌+◌, ◌-◌, ◌<◌, List, Ok, Err, Result, sym, refl, ap, ◌∙◌, sub-one, arith}
 use Rattle.number.proofs.Answers.{clash, ok_same}
 use Rattle.term.specs.Words.{Word, Words, nil, cons, ◌+++◌, len}
 use Rattle.word.specs.Then.{then}
@@ -8,6 +8,7 @@ use Rattle.record.specs.declared.fault.LiteralFault.{LiteralFault}
 use Rattle.record.specs.declared.fault.RecordFault.{RecordFault}
 use Rattle.record.specs.Clauses.{variables}
 use Rattle.record.specs.Records.{literals}
+use Rattle.record.proofs.Places.{len-push}
 use Rattle.record.specs.Reads.{read_literal, Adds, in_literal, read_literals, Builds}
 
 -- no more literals are wanted
@@ -16,7 +17,7 @@ unfolding read_literals
 literals-none zero before input at e = refl
 literals-none (suc count) before input at e = absurd (omega arith)
 
-pub literals-fault : (count : ℕ) (before : Words) (input : List ℕ) (at : ℕ) (fault : LiteralFault) → 0 < count → read_literal before input at ≡ Err fault → read_literals count before input at ≡ Err (in_literal (len before) fault)
+literals-fault : (count : ℕ) (before : Words) (input : List ℕ) (at : ℕ) (fault : LiteralFault) → 0 < count → read_literal before input at ≡ Err fault → read_literals count before input at ≡ Err (in_literal (len before) fault)
 unfolding read_literals
 literals-fault zero before input at fault h e = absurd (omega arith)
 literals-fault (suc count) before input at fault h e = rw e
@@ -28,14 +29,14 @@ literals-more zero before input at l to h e = absurd (omega arith)
 literals-more (suc count) before input at l to h e = rw (e, sub-one)
 
 -- what an answer says of the definition
-pub record Further (before : Words) (input : List ℕ) (at next stood : ℕ) (after : Words) : Type 0 where
-  pub literal : Word
-  pub read : read_literal before input at ≡ Ok (literal, next)
-  pub counts : stood ≡ variables after
-  pub longer : after ≡ before +++ cons literal nil
+record Further (before : Words) (input : List ℕ) (at next stood : ℕ) (after : Words) : Type 0 where
+  literal : Word
+  read : read_literal before input at ≡ Ok (literal, next)
+  counts : stood ≡ variables after
+  longer : after ≡ before +++ cons literal nil
 
 module _ (before : Words) (input : List ℕ) (at : ℕ) (after : Words) (literal : ℕ) where
-  pub further : (R : Result (Word × ℕ) LiteralFault) → R ≡ read_literal before input at → (answer : Result (ℕ × ℕ) LiteralFault) → Adds R before answer after → (r : Result (ℕ × ℕ) RecordFault) → r ≡ then (in_literal literal) answer (λ p. Ok p)
+  further : (R : Result (Word × ℕ) LiteralFault) → R ≡ read_literal before input at → (answer : Result (ℕ × ℕ) LiteralFault) → Adds R before answer after → (r : Result (ℕ × ℕ) RecordFault) → r ≡ then (in_literal literal) answer (λ p. Ok p)
       → (next stood : ℕ) → r ≡ Ok (next, stood) → Further before input at next stood after
   further (Ok p) e answer adds r is next stood was =
       let same : (p.1, variables after) ≡ (next, stood) = ok_same _ _ (sym (is ∙ ap (λ (a : Result (ℕ × ℕ) LiteralFault). then (in_literal literal) a (λ q. Ok q)) adds.0) ∙ was) in
@@ -43,7 +44,7 @@ module _ (before : Words) (input : List ℕ) (at : ℕ) (after : Words) (literal
   further (Err fault) e answer adds r is next stood was =
       absurd (clash (in_literal literal fault) (next, stood) (sym (is ∙ ap (λ (a : Result (ℕ × ℕ) LiteralFault). then (in_literal literal) a (λ q. Ok q)) adds.0) ∙ was))
 
-  pub stopped : (R : Result (Word × ℕ) LiteralFault) → R ≡ read_literal before input at → (answer : Result (ℕ × ℕ) LiteralFault) → Adds R before answer after → (r : Result (ℕ × ℕ) RecordFault) → r ≡ then (in_literal literal) answer (λ p. Ok p)
+  stopped : (R : Result (Word × ℕ) LiteralFault) → R ≡ read_literal before input at → (answer : Result (ℕ × ℕ) LiteralFault) → Adds R before answer after → (r : Result (ℕ × ℕ) RecordFault) → r ≡ then (in_literal literal) answer (λ p. Ok p)
       → (told : RecordFault) → r ≡ Err told → (fault : LiteralFault) × (read_literal before input at ≡ Err fault) × (told ≡ in_literal literal fault)
   stopped (Ok p) e answer adds r is told was =
       absurd (clash told (p.1, variables after) (sym was ∙ is ∙ ap (λ (a : Result (ℕ × ℕ) LiteralFault). then (in_literal literal) a (λ q. Ok q)) adds.0))
@@ -52,9 +53,27 @@ module _ (before : Words) (input : List ℕ) (at : ℕ) (after : Words) (literal
       let found : told ≡ in_literal literal fault = cc in
       (fault, sym e, found)
 
--- the two ends of the loop
-pub builds-fault : (R : Result (Words × ℕ) RecordFault) (told : RecordFault) → R ≡ Err told → Builds R (Err told)
-builds-fault R told e = rw e refl
-
+-- the end of the loop
 pub builds-read : (R : Result (Words × ℕ) RecordFault) (r : Record) (at : ℕ) → R ≡ Ok (literals r, at) → Builds R (Ok (r, at))
 builds-read R r at e = rw e (refl, refl)
+
+-- one turn of the loop over literals, where k of them stand before
+module _ (count k : ℕ) (before : Words) (input : List ℕ) (at : ℕ) (after : Words) (answer : Result (ℕ × ℕ) LiteralFault) (adds : Adds (read_literal before input at) before answer after)
+    (r : Result (ℕ × ℕ) RecordFault) (is : r ≡ then (in_literal k) answer (λ p. Ok p)) (h : k < count) (held : len before ≡ k) (all : Result (Words × ℕ) RecordFault) (left : read_literals (count - k) before input at ≡ all) where
+  pub turn-stopped : (told : RecordFault) → r ≡ Err told → Builds all (Err told)
+  turn-stopped told was =
+      let s = stopped before input at after k (read_literal before input at) refl answer adds r is told was in
+      let fault = literals-fault (count - k) before input at s.0 (omega arith) s.1 in
+      let same : in_literal (len before) s.0 ≡ told = ap (λ (n : ℕ). in_literal n s.0) held ∙ sym s.2 in
+      let end : all ≡ Err told = sym left ∙ fault ∙ ap Err same in
+      rw end refl
+
+  pub turn-more : (next stood : ℕ) → r ≡ Ok (next, stood) → (len after ≡ k + 1) × (stood ≡ variables after) × (read_literals (count - (k + 1)) after input next ≡ all)
+  turn-more next stood was =
+      let f = further before input at after k (read_literal before input at) refl answer adds r is next stood was in
+      let more = literals-more (count - k) before input at f.literal next (omega arith) f.read in
+      let less : count - (k + 1) ≡ count - k - 1 = omega arith in (
+        ap len f.longer ∙ len-push before f.literal ∙ ap (λ (n : ℕ). n + 1) held,
+        f.counts,
+        rw less (ap (λ (ls : Words). read_literals (count - k - 1) ls input next) f.longer ∙ sym more ∙ left),
+      )

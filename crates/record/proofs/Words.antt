@@ -1,10 +1,9 @@
--- Words read after others, and what stands where a number is read.
+-- Words read after others.
 use Rattle.std.proofs.Common.{◌≡◌, ℕ, zero, suc, ◌+◌, ◌<◌, ◌≤◌, List, [], ◌∷◌, ◌++◌, length, get_or, Ok, Err, Result, sym, refl, ap, ◌∙◌, append_assoc, append-nil}
 use Rattle.std.specs.List.{between}
 use Rattle.number.specs.Forms.{form}
 use Rattle.number.specs.Reads.{read_number}
 use Rattle.number.proofs.Answers.{clash, ok_same}
-use Rattle.number.proofs.Exact.{exactly, again}
 use Rattle.term.specs.Coding.{code, codes}
 use Rattle.term.specs.Lawful.{stood}
 use Rattle.term.specs.Words.{Word, var, app, Words, nil, cons, vars, varss}
@@ -14,26 +13,8 @@ use Rattle.word.specs.declared.fault.WordFault.{WordFault}
 use Rattle.word.specs.declared.fault.WordFault.TheVariants.{Number}
 use Rattle.word.specs.Packed.{seen_after}
 use Rattle.word.specs.Reads.{node_at, read_words, Gives}
-use Rattle.word.specs.Then.{then, and_then}
+use Rattle.word.specs.Then.{then}
 use Rattle.word.proofs.Laws.{seen_none}
-
--- the number that stands somewhere
-pub number-stands : (input : List ℕ) (at : ℕ) → ((i : ℕ) → get_or input i 0 < 256) → (p : ℕ × ℕ) → read_number input at ≡ Ok p
-    → (at < p.1) × (p.1 ≤ length input) × (p.0 ≤ 65535) × (between at p.1 input ≡ form p.0)
-number-stands input at bytes p e =
-    let x = exactly input at bytes (Ok p) (sym e) in
-    (x.0, x.1, x.2.range, again input at (Ok p) x)
-
--- what an answer says of the definition
-pub gave-fault : (R : Result (List Node × ℕ × ℕ) WordFault) (before after : List Node) (fault : WordFault) → Gives R before (Err fault) after → (R ≡ Err fault) × (after ≡ before)
-gave-fault (Ok p) before after fault g = absurd (clash fault (p.1, p.2) g.0)
-gave-fault (Err d) before after fault g = let h = g.0 in let e : fault ≡ d = cc in (ap Err (sym e), g.1)
-
-pub gave-words : (R : Result (List Node × ℕ × ℕ) WordFault) (before after : List Node) (end seen : ℕ) → Gives R before (Ok (end, seen)) after → R ≡ Ok (after, end, seen)
-gave-words (Ok p) before after end seen g =
-    let e : (p.1, p.2) ≡ (end, seen) = sym (ok_same (end, seen) (p.1, p.2) g.0) in
-    λ i. Ok (sym g.1 i, (e i).0, (e i).1)
-gave-words (Err d) before after end seen g = absurd (clash d (end, seen) (sym g.0))
 
 -- nodes that stand before the words do not matter
 abbrev pub fronted : List Node → Result (List Node × ℕ × ℕ) WordFault → Result (List Node × ℕ × ℕ) WordFault
@@ -45,18 +26,13 @@ then-fronted : {X E : Type 0} (front : List Node) (f : E → WordFault) (r : Res
 then-fronted front f (Ok x) next on h = h x
 then-fronted front f (Err e) next on h = refl
 
-and_then-fronted : {X : Type 0} (front : List Node) (r : Result X WordFault) (next on : X → Result (List Node × ℕ × ℕ) WordFault) → ((x : X) → on x ≡ fronted front (next x))
-    → and_then r on ≡ fronted front (and_then r next)
-and_then-fronted front (Ok x) next on h = h x
-and_then-fronted front (Err e) next on h = refl
-
 words-fronted : (need room seen : ℕ) (input : List ℕ) (at : ℕ) (front acc : List Node) → read_words need room seen input at (front ++ acc) ≡ fronted front (read_words need room seen input at acc)
 unfolding read_words
 words-fronted zero room seen input at front acc = refl
 words-fronted (suc need) zero seen input at front acc = then-fronted front Number (read_number input at) _ _ (λ _. refl)
 words-fronted (suc need) (suc room) seen input at front acc =
     then-fronted front Number (read_number input at) _ _
-    (λ p. and_then-fronted front (node_at seen input at p.0 p.1) _ _
+    (λ p. then-fronted front (λ e. e) (node_at seen input at p.0 p.1) _ _
     (λ r.
     ap (read_words (need + r.places) room r.seen input r.next) (append_assoc front acc (r.node ∷ []))
     ∙ words-fronted (need + r.places) room r.seen input r.next front (acc ++ r.node ∷ [])))

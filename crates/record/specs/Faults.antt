@@ -1,6 +1,6 @@
--- What each fault tells: the number of the question that was answered with no, a byte, the literal in hand, and what was
--- being read.
-use Rattle.std.specs.Prelude.{ℕ, List, [], ◌∷◌, ◌++◌, Some, None, Option}
+-- What each fault tells: the number of the question that was answered with no, a byte, the literal in hand, what was
+-- being read, and what is wrong, in words.
+use Rattle.std.specs.Prelude.{ℕ, List, [], ◌∷◌, ◌++◌, Some, None, codes, Option}
 use Rattle.number.specs.Faults as numbers
 use Rattle.word.specs.Faults as words
 use Rattle.word.specs.declared.fault.Layer.{Layer}
@@ -30,3 +30,17 @@ told (Number fault) = ((numbers.told fault).0, (numbers.told fault).1, None, lay
 told (Literals first) = (4, first, None, layer.Record ∷ [])
 told (Literal place) = ((literal_told place.fault).0, place.byte, Some place.literal, (literal_told place.fault).2)
 told (Left first) = (9, first, None, layer.Record ∷ [])
+
+-- what is wrong, in words; a number's fault and a word's say it in their own
+abbrev pub literal_sentence : LiteralFault → List ℕ
+literal_sentence (InNumber fault) = numbers.sentence fault
+literal_sentence (Word fault) = words.sentence fault
+literal_sentence (Places _) = codes "a predicate has more than 8 places"
+literal_sentence (Nodes _) = codes "there are more nodes than the limit (64 in a place word, 256 in a record)"
+literal_sentence (Repeated _) = codes "the literal repeats an earlier one"
+
+abbrev pub sentence : RecordFault → List ℕ
+sentence (Number fault) = numbers.sentence fault
+sentence (Literals _) = codes "there are more than 16 literals"
+sentence (Literal place) = literal_sentence place.fault
+sentence (Left _) = codes "bytes are left over"

@@ -13,6 +13,8 @@ mod packing;
 // A clause of at most 16 literals and 256 nodes: no symbol and no predicate has more than 8 places, no literal stands
 // twice, and the variables are numbered from 0 in the order of their first standing. The nodes stand in preorder, one
 // literal after the other, and `starts` says where each begins.
+// No `impl Model`: the type is `Copy`, so a view would need an inverse, and `literals` forgets what stands in the places that
+// are not in use.
 #[derive(Clone, Copy)]
 pub struct Record {
     nodes: Bounded<Node, 256>,

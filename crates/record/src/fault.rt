@@ -1,10 +1,13 @@
 // Why a record was not read.
-ghost use Rattle.std.specs.Prelude.{◌≡◌};
+ghost use Rattle.std.specs.Prelude.{◌≡◌, Some};
 ghost use Rattle.record.specs.declared.fault.LiteralFault.TheVariants.{Number as InNumber, Word};
 ghost use Rattle.record.specs.declared.fault.RecordFault.TheVariants.{Number};
-ghost use Rattle.record.specs.Faults.{literal_told, told};
+ghost use Rattle.record.specs.Faults.{literal_told, told, literal_sentence, sentence};
+ghost use Rattle.record.specs.Reads.{in_literal};
 
 use number::NumberFault;
+use std::error::Error;
+use std::fmt;
 use word::{Layer, WordFault};
 
 // The first question of the reader of a literal that was answered with no.
@@ -64,7 +67,37 @@ impl LiteralFault {
             LiteralFault::Repeated { first } => *first,
         }
     }
+
+    // This fault in a record, where the literal in hand is number `literal`.
+    pub(super) fn in_literal(self, literal: usize) -> RecordFault
+        ensures { result ≡ in_literal literal self }
+    {
+        RecordFault::Literal(InLiteral {
+            literal,
+            byte: self.byte(),
+            fault: self,
+        })
+    }
 }
+
+// What is wrong, in words.
+impl fmt::Display for LiteralFault {
+    ghost output = { λ fault. Some (literal_sentence fault) };
+
+    fn fmt<W: fmt::Write>(&self, f: &mut fmt::Formatter<W>) -> fmt::Result {
+        match self {
+            LiteralFault::Number(fault) => fault.fmt(f),
+            LiteralFault::Word(fault) => fault.fmt(f),
+            LiteralFault::Places { first: _ } => f.write_str("a predicate has more than 8 places"),
+            LiteralFault::Nodes { first: _ } => f.write_str(
+                "there are more nodes than the limit (64 in a place word, 256 in a record)",
+            ),
+            LiteralFault::Repeated { first: _ } => f.write_str("the literal repeats an earlier one"),
+        }
+    }
+}
+
+impl Error for LiteralFault {}
 
 // A literal's fault with the byte that it is about and the literal in hand, counted from 0.
 #[derive(Clone, Copy, PartialEq, Debug)]
@@ -159,3 +192,19 @@ fn literal_layers(fault: &LiteralFault) -> &'static [Layer]
         _ => &[Layer::Literal, Layer::Record],
     }
 }
+
+// What is wrong, in words.
+impl fmt::Display for RecordFault {
+    ghost output = { λ fault. Some (sentence fault) };
+
+    fn fmt<W: fmt::Write>(&self, f: &mut fmt::Formatter<W>) -> fmt::Result {
+        match self {
+            RecordFault::Number(fault) => fault.fmt(f),
+            RecordFault::Literals { first: _ } => f.write_str("there are more than 16 literals"),
+            RecordFault::Literal(place) => place.fault.fmt(f),
+            RecordFault::Left { first: _ } => f.write_str("bytes are left over"),
+        }
+    }
+}
+
+impl Error for RecordFault {}

@@ -66,7 +66,8 @@ fn read_head(input: &[u8], at: usize, held: usize) -> Result<Head, LiteralFault>
     })
 }
 
-// The predicate of a literal's first number.
+// The predicate of a literal's first number. No `From`: elsewhere in the packed form the same number
+// is a variable or a function symbol.
 fn predicate(value: u16) -> Symbol
     ensures { result ≡ predicate_of value }
 {

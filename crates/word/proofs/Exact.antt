@@ -6,7 +6,7 @@ use Rattle.std.proofs.lemmas.List.{append-nil, take-append-drop}
 use Rattle.std.proofs.lemmas.Bool.{leb-true, eqb-true, eqb-false, true≢false, false≢true}
 use Rattle.number.specs.Forms.{form}
 use Rattle.number.specs.Reads.{read_number}
-use Rattle.number.proofs.Exact.{exactly, again}
+use Rattle.number.proofs.Exact.{number-stands}
 use Rattle.term.specs.Lawful.{lawful}
 use Rattle.term.specs.declared.node.Node.{Node}
 use Rattle.term.specs.declared.node.Node.TheVariants.{Variable, Applied}
@@ -19,7 +19,7 @@ use Rattle.word.specs.Reads.{gave, node_at, read_words, Gives, Stand, Added, Exa
 use Rattle.word.proofs.Laws.{packed_none, packed_more, seen_none, seen-variable, seen-symbol, lawful-none, lawful-variable, lawful-symbol, between_join}
 use Rattle.word.proofs.Back.{reads-packed}
 use Rattle.number.proofs.Answers.{clash, ok_same}
-use Rattle.word.proofs.Turns.{then-made, and_then-made, picked}
+use Rattle.word.proofs.Turns.{then-made, picked}
 
 -- a node stands from `at` to the place after it
 record NodeStands (seen : ℕ) (input : List ℕ) (at : ℕ) (r : Read) : Type 0 where
@@ -29,13 +29,6 @@ record NodeStands (seen : ℕ) (input : List ℕ) (at : ℕ) (r : Read) : Type 0
   small : node_number r.node ≤ 32767
   words : (nodes : List Node) (need : ℕ) → 0 < need → lawful nodes (need - 1 + r.places) r.seen ≡ true → lawful (r.node ∷ nodes) need seen ≡ true
   counted : (nodes : List Node) → seen_after (r.node ∷ nodes) seen ≡ seen_after nodes r.seen
-
--- the number that stands somewhere
-number-stands : (input : List ℕ) (at : ℕ) → ((i : ℕ) → get_or input i 0 < 256) → (p : ℕ × ℕ) → read_number input at ≡ Ok p
-    → (at < p.1) × (p.1 ≤ length input) × (p.0 ≤ 65535) × (between at p.1 input ≡ form p.0)
-number-stands input at bytes p e =
-    let x = exactly input at bytes (Ok p) (sym e) in
-    (x.0, x.1, x.2.range, again input at (Ok p) x)
 
 variable-stands : (seen : ℕ) (input : List ℕ) (at : ℕ) (p : ℕ × ℕ) → (at < p.1) × (p.1 ≤ length input) × (p.0 ≤ 65535) × (between at p.1 input ≡ form p.0)
     → p.0 % 2 ≡ 0 → p.0 / 2 ≤ seen → NodeStands seen input at (gave (Variable (p.0 / 2)) 0 p.1 (max seen (suc (p.0 / 2))))
@@ -125,7 +118,7 @@ words-added zero room seen input at acc bytes q e = subst (Told 0 room seen inpu
 words-added (suc need) zero seen input at acc bytes q e = let p = then-made Number (read_number input at) _ q e in absurd (clash _ q p.2)
 words-added (suc need) (suc room) seen input at acc bytes q e =
     let p = then-made Number (read_number input at) _ q e in
-    let r = and_then-made (node_at seen input at p.0.0 p.0.1) _ q p.2 in
+    let r = then-made (λ e. e) (node_at seen input at p.0.0 p.0.1) _ q p.2 in
     let s = node-stands seen input at bytes p.0 r.0 p.1 r.1 in
     node-before need room seen input at q.1 q.2 acc q.0 r.0 s
     (words-added (need + r.0.places) room r.0.seen input r.0.next (acc ++ r.0.node ∷ []) bytes q r.2)

@@ -30,14 +30,14 @@ pub length-puts : (out : List ℕ) (i : ℕ) (xs : List ℕ) → length (puts ou
 length-puts out i [] = refl
 length-puts out i (x ∷ xs) = length-puts (set out i x) (i + 1) xs ∙ length-set out i x
 
--- a number that has room is put
-pub number-puts : (value at : ℕ) (before : List ℕ) (r : Result ℕ NoRoom) (after : List ℕ) → Wrote value at before r after → at + length (form value) ≤ length before
-    → (r ≡ Ok (at + length (form value))) × (after ≡ puts before at (form value))
-number-puts value at before (Ok to) after w h =
-    let same : to ≡ at + length (form value) = w.0 in
-    (ap Ok same, w.2 ∙ ap (λ (n : ℕ). take at before ++ (form value ++ drop n before)) same ∙ sym (puts-is before at (form value) h))
-number-puts value at before (Err e) after w h = absurd (omega (arith, w.0))
+-- bytes that have room are put
+pub wrote-puts : (bytes : List ℕ) (at : ℕ) (before : List ℕ) (r : Result ℕ NoRoom) (after : List ℕ) → Wrote bytes at before r after → at + length bytes ≤ length before
+    → (r ≡ Ok (at + length bytes)) × (after ≡ puts before at bytes)
+wrote-puts bytes at before (Ok to) after w h =
+    let same : to ≡ at + length bytes = w.0 in
+    (ap Ok same, w.2 ∙ ap (λ (n : ℕ). take at before ++ (bytes ++ drop n before)) same ∙ sym (puts-is before at bytes h))
+wrote-puts bytes at before (Err e) after w h = absurd (omega (arith, w.0))
 
--- a number put after another
+-- bytes put after others
 pub two-puts : (before mid after xs ys : List ℕ) (at next : ℕ) → next ≡ at + length xs → mid ≡ puts before at xs → after ≡ puts mid next ys → after ≡ puts before at (xs ++ ys)
 two-puts before mid after xs ys at next n m a = a ∙ rw (m, n) (sym (puts-join before at xs ys))

@@ -1,5 +1,5 @@
 -- Reading words, node by node.
-use Rattle.std.proofs.Common.{◌≡◌, ℕ, zero, suc, ◌+◌, ◌-◌, ◌/◌, ◌%◌, ◌<◌, ◌≤◌, Bool, true, false, cond, eqb, leb, ◌⊎◌, List, [], ◌∷◌, ◌++◌, Ok, Err, Result, refl, ap, inl, inr, sub-one, arith}
+use Rattle.std.proofs.Common.{◌≡◌, ℕ, zero, suc, ◌+◌, ◌-◌, ◌/◌, ◌%◌, ◌<◌, ◌≤◌, Bool, true, false, cond, eqb, leb, ◌⊎◌, List, [], ◌∷◌, ◌++◌, Ok, Err, Result, sym, refl, ap, inl, inr, sub-one, arith}
 use Rattle.std.proofs.lemmas.Bool.{leb-true}
 use Rattle.number.specs.declared.fault.NumberFault.{NumberFault}
 use Rattle.number.specs.Reads.{read_number}
@@ -9,16 +9,12 @@ use Rattle.number.proofs.Answers.{clash, ok_same}
 use Rattle.word.specs.declared.fault.WordFault.TheVariants.{Number, Nodes}
 use Rattle.word.specs.declared.reading.Read.{Read}
 use Rattle.word.specs.Reads.{node_at, read_words, Gives}
-use Rattle.word.specs.Then.{then, and_then}
+use Rattle.word.specs.Then.{then}
 
 -- what was answered on the way to an answer
 pub then-made : {X Y E F : Type 0} (f : E → F) (r : Result X E) (next : X → Result Y F) (y : Y) → then f r next ≡ Ok y → (x : X) × (r ≡ Ok x) × (next x ≡ Ok y)
 then-made f (Ok x) next y e = (x, refl, e)
 then-made f (Err d) next y e = absurd (clash (f d) y e)
-
-pub and_then-made : {X Y E : Type 0} (r : Result X E) (next : X → Result Y E) (y : Y) → and_then r next ≡ Ok y → (x : X) × (r ≡ Ok x) × (next x ≡ Ok y)
-and_then-made (Ok x) next y e = (x, refl, e)
-and_then-made (Err d) next y e = absurd (clash d y e)
 
 -- which way a test of the definition went
 pub picked : {X : Type 0} (b : Bool) (x y z : X) → cond b x y ≡ z → ((b ≡ true) × (x ≡ z)) ⊎ ((b ≡ false) × (y ≡ z))
@@ -79,6 +75,17 @@ node-places seen input at value next r e = elim (picked (eqb (value % 2) 0) _ _ 
         | inr t ↦ absurd (clash _ r t.1)
       ]
 ]
+
+-- what an answer says of the definition
+pub gave-fault : (R : Result (List Node × ℕ × ℕ) WordFault) (before after : List Node) (fault : WordFault) → Gives R before (Err fault) after → (R ≡ Err fault) × (after ≡ before)
+gave-fault (Ok p) before after fault g = absurd (clash fault (p.1, p.2) g.0)
+gave-fault (Err d) before after fault g = let h = g.0 in let e : fault ≡ d = cc in (ap Err (sym e), g.1)
+
+pub gave-words : (R : Result (List Node × ℕ × ℕ) WordFault) (before after : List Node) (end seen : ℕ) → Gives R before (Ok (end, seen)) after → R ≡ Ok (after, end, seen)
+gave-words (Ok p) before after end seen g =
+    let e : (p.1, p.2) ≡ (end, seen) = sym (ok_same (end, seen) (p.1, p.2) g.0) in
+    λ i. Ok (sym g.1 i, (e i).0, (e i).1)
+gave-words (Err d) before after end seen g = absurd (clash d (end, seen) (sym g.0))
 
 pub gives-fault : (S R : Result (List Node × ℕ × ℕ) WordFault) (r : Result (ℕ × ℕ) WordFault) (fault : WordFault) (after : List Node) → S ≡ R → S ≡ Err fault → r ≡ Err fault → Gives R after r after
 gives-fault S R r fault after same e d = let z : R ≡ Err fault = cc in rw z (d, refl)

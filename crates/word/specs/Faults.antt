@@ -1,5 +1,6 @@
--- What each fault tells: the number of the question that was answered with no, a byte, and what was being read.
-use Rattle.std.specs.Prelude.{ℕ, List, [], ◌∷◌}
+-- What each fault tells: the number of the question that was answered with no, a byte, and what was being read, from where
+-- the fault arose upward, each once; and what is wrong, in words.
+use Rattle.std.specs.Prelude.{ℕ, List, [], ◌∷◌, codes}
 use Rattle.number.specs.Faults as numbers
 use Rattle.word.specs.declared.fault.Layer.{Layer}
 use Rattle.word.specs.declared.fault.Layer.TheVariants as layer
@@ -16,6 +17,17 @@ told (Places first) = (5, first, layer.Word ∷ [])
 told (Nodes first) = (6, first, layer.Word ∷ [])
 told (Order first) = (7, first, layer.Word ∷ [])
 
--- what was being read, from where the fault arose upward, each once
-abbrev pub layers : WordFault → List Layer
-layers fault = (told fault).2
+-- the name of what was being read
+abbrev pub layer_name : Layer → List ℕ
+layer_name layer.Number = codes "number"
+layer_name layer.Word = codes "word"
+layer_name layer.PlaceWord = codes "place word"
+layer_name layer.Literal = codes "literal"
+layer_name layer.Record = codes "record"
+
+-- what is wrong, in words; a number's fault says it in its own
+abbrev pub sentence : WordFault → List ℕ
+sentence (Number fault) = numbers.sentence fault
+sentence (Places _) = codes "a symbol has more than 8 places"
+sentence (Nodes _) = codes "there are more nodes than the limit (64 in a place word, 256 in a record)"
+sentence (Order _) = codes "a variable is not the next unused one"

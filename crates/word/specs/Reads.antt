@@ -10,7 +10,7 @@ use Rattle.word.specs.declared.fault.WordFault.{WordFault}
 use Rattle.word.specs.declared.fault.WordFault.TheVariants.{Number, Places, Nodes, Order}
 use Rattle.word.specs.declared.reading.Read.{Read}
 use Rattle.word.specs.Packed.{packed, seen_after, Writable}
-use Rattle.word.specs.Then.{then, and_then}
+use Rattle.word.specs.Then.{then}
 
 -- what reading one node gives
 abbrev pub gave : Node → (places next seen : ℕ) → Read
@@ -35,7 +35,7 @@ unfoldable pub read_words : (need room seen : ℕ) → List ℕ → (at : ℕ) �
 read_words zero room seen input at acc = Ok (acc, at, seen)
 read_words (suc need) zero seen input at acc = then Number (read_number input at) (λ _. Err (Nodes at))
 read_words (suc need) (suc room) seen input at acc =
-    then Number (read_number input at) (λ p. and_then (node_at seen input at p.0 p.1) (λ r. read_words (need + r.places) room r.seen input r.next (acc ++ r.node ∷ [])))
+    then Number (read_number input at) (λ p. then (λ e. e) (node_at seen input at p.0 p.1) (λ r. read_words (need + r.places) room r.seen input r.next (acc ++ r.node ∷ [])))
 
 -- an answer is what the definition gives, and the list holds the words read, or after a fault what it held before
 abbrev pub Gives : Result (List Node × ℕ × ℕ) WordFault → (before : List Node) → Result (ℕ × ℕ) WordFault → (after : List Node) → Type 0

@@ -1,9 +1,11 @@
 // Why words were not read.
-ghost use Rattle.std.specs.Prelude.{◌≡◌};
+ghost use Rattle.std.specs.Prelude.{◌≡◌, Some};
 ghost use Rattle.word.specs.declared.fault.WordFault.TheVariants.{Number};
-ghost use Rattle.word.specs.Faults.{told, layers};
+ghost use Rattle.word.specs.Faults.{told, layer_name, sentence};
 
 use number::NumberFault;
+use std::error::Error;
+use std::fmt;
 
 // What was being read when a fault arose.
 #[derive(Clone, Copy, PartialEq, Debug)]
@@ -13,6 +15,21 @@ pub enum Layer {
     PlaceWord,
     Literal,
     Record,
+}
+
+impl fmt::Display for Layer {
+    ghost output = { λ layer. Some (layer_name layer) };
+
+    fn fmt<W: fmt::Write>(&self, f: &mut fmt::Formatter<W>) -> fmt::Result {
+        let name = match self {
+            Layer::Number => "number",
+            Layer::Word => "word",
+            Layer::PlaceWord => "place word",
+            Layer::Literal => "literal",
+            Layer::Record => "record",
+        };
+        f.write_str(name)
+    }
 }
 
 // The first question of the reader that was answered with no.
@@ -63,7 +80,7 @@ impl WordFault {
 
     // What was being read, from where the fault arose upward.
     pub fn layers(&self) -> &'static [Layer]
-        ensures { result.now ≡ layers self.now }
+        ensures { result.now ≡ (told self.now).2 }
     {
         match self {
             WordFault::Number(_) => &[Layer::Number, Layer::Word],
@@ -73,3 +90,21 @@ impl WordFault {
         }
     }
 }
+
+// What is wrong, in words.
+impl fmt::Display for WordFault {
+    ghost output = { λ fault. Some (sentence fault) };
+
+    fn fmt<W: fmt::Write>(&self, f: &mut fmt::Formatter<W>) -> fmt::Result {
+        match self {
+            WordFault::Number(fault) => fault.fmt(f),
+            WordFault::Places { first: _ } => f.write_str("a symbol has more than 8 places"),
+            WordFault::Nodes { first: _ } => f.write_str(
+                "there are more nodes than the limit (64 in a place word, 256 in a record)",
+            ),
+            WordFault::Order { first: _ } => f.write_str("a variable is not the next unused one"),
+        }
+    }
+}
+
+impl Error for WordFault {}

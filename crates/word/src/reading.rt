@@ -50,6 +50,7 @@ fn read_each<const N: usize>(
     ensures kept { take (length (elems nodes.old)) (elems nodes.new) ≡ elems nodes.old }
 {
     let mut need = count;
+    // No loop over a range: how many words are still needed is known only after each node.
     while need > 0 {
         let (value, next) = number::read(input, at)?;
         if nodes.len() == N {

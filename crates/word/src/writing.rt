@@ -1,7 +1,8 @@
 // Writes nodes into a lent buffer.
 ghost use Rattle.std.specs.Prelude.{◌≡◌, ◌+◌, ◌≤◌, ◌++◌, length, take, drop, IfOk, Ok};
+ghost use Rattle.number.specs.Writes.{Wrote};
 ghost use Rattle.word.specs.Packed.{packed_symbol, packed_node, packed, symbol_number, node_number, Writable};
-ghost use Rattle.word.specs.Writes.{Wrote, Back};
+ghost use Rattle.word.specs.Writes.{Back};
 
 use number::NoRoom;
 use term::{Node, Symbol};
@@ -51,7 +52,8 @@ fn write_node(out: &mut [u8], at: usize, node: Node) -> Result<usize, NoRoom>
     }
 }
 
-// How many bytes the packed form of `node` has.
+// How many bytes the packed form of `node` has. No `From`, here and below: that would have to take every node and symbol, and
+// a `TryFrom` would refuse what the caller has shown not to be there.
 fn node_length(node: Node) -> usize
     requires { node_number node ≤ 32767 }
     ensures value { result ≡ length (packed_node node) }

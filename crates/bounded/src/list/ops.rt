@@ -37,11 +37,7 @@ impl<T: Copy, const N: usize> Bounded<T, N> {
     pub fn get(&self, i: usize) -> Option<T>
         ensures { result ≡ slice_get (elems self.now) i }
     {
-        if i < self.len {
-            Some(self.items[i])
-        } else {
-            None
-        }
+        self.as_slice().get(i).copied()
     }
 
     // Puts `x` in the place of the element at `i`; false, and nothing changes, where there is none.
@@ -78,6 +74,7 @@ impl<T: Copy, const N: usize> Bounded<T, N> {
     }
 }
 
+// By hand, since `Clone` cannot be derived for a struct with a ghost field.
 impl<T: Copy, const N: usize> Clone for Bounded<T, N> {
     ghost is_clone = { λ x y. y ≡ x };
 

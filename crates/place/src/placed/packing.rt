@@ -1,6 +1,6 @@
 // The packed form of place words.
 ghost use Rattle.std.specs.Prelude.{◌≡◌, Ok};
-ghost use Rattle.word.specs.Writes.{Wrote};
+ghost use Rattle.number.specs.Writes.{Wrote};
 ghost use Rattle.term.specs.Coding.{code};
 ghost use Rattle.place.specs.Places.{meaning};
 ghost use Rattle.place.specs.Packing.{place_form, read_place, Reads, Exactly};

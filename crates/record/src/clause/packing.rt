@@ -1,13 +1,12 @@
 // The packed form of records.
 ghost use Rattle.std.specs.Prelude.{◌≡◌, ◌<◌, ◌≤◌, Ok};
+ghost use Rattle.number.specs.Writes.{Wrote};
 ghost use Rattle.term.specs.Words.{nil, len};
-ghost use Rattle.word.specs.Then.{then};
-ghost use Rattle.word.specs.Writes.{Wrote};
 ghost use Rattle.record.specs.Clauses.{variables};
 ghost use Rattle.record.specs.Records.{literals};
-ghost use Rattle.record.specs.Reads.{read_literal, Adds, in_literal, read_literals, Builds, read_record, clause_form, Reads, Exactly};
+ghost use Rattle.record.specs.Reads.{read_literal, Adds, read_literals, Builds, read_record, clause_form, Reads, Exactly};
 
-use super::super::fault::{InLiteral, LiteralFault, RecordFault};
+use super::super::fault::{LiteralFault, RecordFault};
 use super::super::literal::add_literal;
 use super::Record;
 use number::NoRoom;
@@ -76,26 +75,11 @@ fn read_literals(input: &[u8], mut at: usize, count: usize) -> Result<(Record, u
     let mut record = Record::new();
     let mut seen = 0;
     for k in 0..count {
-        let (next, stood) = in_literal(record.read_literal(input, at, seen), k)?;
+        let (next, stood) = record
+            .read_literal(input, at, seen)
+            .map_err(|fault| fault.in_literal(k))?;
         at = next;
         seen = stood;
     }
     Ok((record, at))
-}
-
-// A literal's answer, with the literal and the byte put to its fault.
-fn in_literal(
-    answer: Result<(usize, u16), LiteralFault>,
-    literal: usize,
-) -> Result<(usize, u16), RecordFault>
-    ensures { result ≡ then (in_literal literal) answer (λ p. Ok p) }
-{
-    match answer {
-        Ok(places) => Ok(places),
-        Err(fault) => Err(RecordFault::Literal(InLiteral {
-            literal,
-            byte: fault.byte(),
-            fault,
-        })),
-    }
 }

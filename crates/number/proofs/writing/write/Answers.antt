@@ -1,4 +1,5 @@
-use Rattle.std.proofs.Common.{◌≡◌, ℕ, suc, ◌+◌, ◌-◌, ◌^◌, ◌<◌, ◌≤◌, length, sym, refl, ◌∙◌, subst, arith}
+use Rattle.std.proofs.Common.{◌≡◌, ◌+◌, ◌-◌, length, take, drop, refl, ◌∙◌, arith}
+use Rattle.std.proofs.lemmas.List.{length-take-le, length-drop}
 use Rattle.number.specs.Groups.{groups}
 use Rattle.number.proofs.Formed.{length-form, one_form}
 use Rattle.number.proofs.Puts.{spread-more, rest-less, written}
@@ -11,24 +12,24 @@ returns-then-saturating_sub-length c = record {
   one = one_form;
 }
 
-pub loop-i-init : goal.loop-i-init
-loop-i-init c =
-    let fewest = c.form_length-length.ensures.fewest in
-    let count : suc (c.args.at + c.form_length-length.result - 1 - c.args.at) ≡ c.form_length-length.result = omega (arith, fewest.some) in
-    (subst (λ (k : ℕ). c.args.value < 128 ^ k) (sym count) fewest.holds, refl)
-
-pub loop-i-preserved : goal.loop-i-preserved
-loop-i-preserved c =
-    let last = c.args.at + c.form_length-length.result - 1 in (
-      rest-less last c.loop-i.i c.loop-i.rest (omega arith) c.loop-i.invariant.0,
-      sym (spread-more c.loop-i.out last c.loop-i.i c.loop-i.rest (omega arith)) ∙ c.loop-i.invariant.1,
-    )
+pub loop-byte-preserved : goal.loop-byte-preserved
+loop-byte-preserved c =
+    let n = length (take (c.args.at + c.form_length-length.result - 1 - c.args.at) (drop c.args.at c.args.out.now)) in
+    record {
+      small = rest-less n c.loop-byte.byte-index c.loop-byte.rest (omega arith) c.loop-byte.invariant.small;
+      put = spread-more c.loop-byte.byte-items n c.loop-byte.byte-index c.loop-byte.rest (omega arith) (omega arith) ∙ c.loop-byte.invariant.put;
+    }
 
 pub returns : goal.returns
 returns c =
-    let last = c.args.at + c.form_length-length.result - 1 in
+    let at = c.args.at in
+    let before = c.args.out.now in
+    let last = at + c.form_length-length.result - 1 in
+    let items = c.loop-byte.byte-items in
     let some = c.form_length-length.ensures.fewest.some in
-    let size : last + 1 ≡ c.args.at + groups c.args.value = omega (arith, c.form_length-length.ensures.table) in
-    let room : last + 1 ≤ length c.args.out.now = omega arith in
-    let done = written c.args.out.now c.loop-i.out c.args.at last c.loop-i.i c.loop-i.rest c.args.value (last + 1) (omega arith) refl size room (omega arith) c.loop-i.invariant.1 in
-    record { wrote = (omega (arith, length-form c.args.value), room, done.0); back = done.1; one = one_form }
+    let size : last + 1 ≡ at + groups c.args.value = omega (arith, c.form_length-length.ensures.table) in
+    let n : length (take (last - at) (drop at before)) ≡ last - at = length-take-le (last - at) (drop at before) (omega (arith, length-drop at before)) in
+    let same : length items ≡ length (take (last - at) (drop at before)) = c.loop-byte.auto.byte-items in
+    let put = rw (← same) at c.loop-byte.invariant.put in
+    let done = written before items at last c.loop-byte.byte-index c.loop-byte.rest c.args.value (omega arith) size (omega arith) (omega arith) (omega arith) put in
+    record { wrote = (omega (arith, length-form c.args.value), omega arith, done.0); back = done.1; one = one_form }

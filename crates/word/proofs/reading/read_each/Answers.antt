@@ -1,5 +1,5 @@
 use Rattle.std.proofs.Common.{◌≡◌, ℕ, ◌+◌, ◌-◌, ◌<◌, ◌≤◌, [], ◌∷◌, ◌++◌, length, take, Ok, Err, sym, refl, ap, ◌∙◌, arith}
-use Rattle.std.proofs.lemmas.List.{take_all, take-append-le, length_push}
+use Rattle.std.proofs.lemmas.List.{take-append-le, length_push}
 use Rattle.std.proofs.lemmas.Result.{err_from_is_err_and}
 use Rattle.bounded.specs.Elems.{elems}
 use Rattle.number.specs.Reads.{read_number}
@@ -8,9 +8,6 @@ use Rattle.word.specs.Reads.{node_at, read_words}
 use Rattle.bounded.proofs.Rooms.{pushed_room}
 use Rattle.word.proofs.Turns.{words-none, words-fault, words-full, words-refused, words_more, node-places, gives-fault, gives-read}
 use Rattle.word.proofs.reading.read_each.Goals as goal
-
-pub loop-need-init : goal.loop-need-init
-loop-need-init g c = (omega arith, take_all _ _ (omega arith), omega arith, refl)
 
 pub returns-in_err-value : goal.returns-in_err-value
 returns-in_err-value g c =
@@ -77,16 +74,6 @@ overflow_add-need g c =
     let node : node_at c.loop-need.seen c.args.input.now c.loop-need.at c.in_ok-value.value c.in_ok-value.next ≡ Ok read = sym c.read_node.ensures ∙ c.in_ok-read.was in
     let few : read.places ≤ 8 = node-places c.loop-need.seen c.args.input.now c.loop-need.at c.in_ok-value.value c.in_ok-value.next read node in
     omega (arith, c.requires)
-
-pub loop-need-smaller : goal.loop-need-smaller
-loop-need-smaller g c =
-    let held = elems c.loop-need.nodes in
-    let node = c.in_ok-read.read.node in
-    let more = elems c.push.new.self in
-    let room : length held < g.row.N = omega arith in
-    let pushed : more ≡ held ++ node ∷ [] = pushed_room g.row.N node held c.push.result more c.push.ensures room in
-    let longer : length more ≡ length held + 1 = ap length pushed ∙ length_push held node in
-    omega arith
 
 pub loop-need-preserved : goal.loop-need-preserved
 loop-need-preserved g c =

@@ -6,9 +6,6 @@ use Rattle.word.proofs.Laws.{packed_none}
 use Rattle.word.proofs.Puts.{length_more}
 use Rattle.word.proofs.writing.packed_length.Goals as goal
 
-pub node_length-total-requires : goal.node_length-total-requires
-node_length-total-requires c = (subst Writable (drop_more c.args.nodes.now c.loop-node.node-index (Variable 0) (omega arith)) c.loop-node.invariant.2).0
-
 pub loop-node-preserved : goal.loop-node-preserved
 loop-node-preserved c =
     let nodes = c.args.nodes.now in

@@ -1,25 +1,9 @@
-use Rattle.std.proofs.Common.{◌≡◌, ◌+◌, ◌*◌, ◌≤◌, ◌++◌, length, Ok, sym, ap, ◌∙◌, arith, length-append}
+use Rattle.std.proofs.Common.{◌≡◌, ◌+◌, ◌++◌, length, Ok, sym, ap, ◌∙◌, arith, length-append}
 use Rattle.number.specs.Forms.{form}
 use Rattle.number.proofs.Puts.{puts, puts-is}
 use Rattle.word.specs.Packed.{packed_node}
-use Rattle.word.proofs.Puts.{number-puts, two-puts, length-puts}
+use Rattle.word.proofs.Puts.{wrote-puts, two-puts, length-puts}
 use Rattle.word.proofs.writing.write_node.Goals as goal
-
-pub returns-in-Variable : goal.returns-in-Variable
-returns-in-Variable c =
-    let out = c.args.out.now in
-    let at = c.args.at in
-    let node = c.args.node in
-    let bytes : packed_node node ≡ form (2 * c.in-Variable.x) = ap packed_node c.in-Variable.is in
-    let room : at + length (form (2 * c.in-Variable.x)) ≤ length out = rw bytes at c.requires.room in
-    let p = number-puts _ at out c.write.result c.write.new.out c.write.ensures.wrote room in
-    record { place = rw bytes p.0; puts = rw bytes (p.1 ∙ puts-is out at (form (2 * c.in-Variable.x)) room) }
-
-pub returns-in_err-next-in-Applied : goal.returns-in_err-next-in-Applied
-returns-in_err-next-in-Applied c =
-    let bytes : packed_node c.args.node ≡ form c.packed_symbol.result ++ form c.in-Applied.places = ap packed_node c.in-Applied.is ∙ ap (λ n. form n ++ form c.in-Applied.places) (sym c.packed_symbol.ensures) in
-    let long = ap length bytes ∙ length-append (form c.packed_symbol.result) (form c.in-Applied.places) in
-    absurd (omega (arith, c.in_err-next-in-Applied.ensures.wrote.0, c.requires.room))
 
 pub returns-in_ok-next-in-Applied : goal.returns-in_ok-next-in-Applied
 returns-in_ok-next-in-Applied c =
@@ -30,10 +14,10 @@ returns-in_ok-next-in-Applied c =
     let bytes : packed_node c.args.node ≡ first ++ second = ap packed_node c.in-Applied.is ∙ ap (λ n. form n ++ second) (sym c.packed_symbol.ensures) in
     let long = ap length bytes ∙ length-append first second in
     let mid = c.write-in-Applied.new.out in
-    let one = number-puts _ at out c.write-in-Applied.result mid c.write-in-Applied.ensures.wrote (omega (arith, c.requires.room)) in
+    let one = wrote-puts _ at out c.write-in-Applied.result mid c.write-in-Applied.ensures.wrote (omega (arith, c.requires.room)) in
     let next : c.in_ok-next-in-Applied.next ≡ at + length first = c.in_ok-next-in-Applied.ensures.wrote.0 in
     let kept : length mid ≡ length out = ap length one.1 ∙ length-puts out at first in
-    let two = number-puts _ c.in_ok-next-in-Applied.next mid c.write-in-Applied-2.result c.write-in-Applied-2.new.out c.write-in-Applied-2.ensures.wrote (omega (arith, c.requires.room)) in
+    let two = wrote-puts _ c.in_ok-next-in-Applied.next mid c.write-in-Applied-2.result c.write-in-Applied-2.new.out c.write-in-Applied-2.ensures.wrote (omega (arith, c.requires.room)) in
     let all = two-puts out mid c.write-in-Applied-2.new.out first second at c.in_ok-next-in-Applied.next next one.1 two.1 in
     let sum : c.in_ok-next-in-Applied.next + length second ≡ at + length (packed_node c.args.node) = omega arith in
     record {

@@ -2,7 +2,7 @@ use Rattle.std.proofs.Common.{List, sym, ◌∙◌, subst, arith}
 use Rattle.bounded.specs.Elems.{elems}
 use Rattle.term.specs.declared.node.Node.{Node}
 use Rattle.word.specs.Packed.{packed, Writable}
-use Rattle.word.specs.Writes.{Wrote}
+use Rattle.number.specs.Writes.{Wrote}
 use Rattle.word.proofs.Laws.{lawful-writable}
 use Rattle.place.specs.Held.{held, few}
 use Rattle.place.proofs.Forms.{reads-back}

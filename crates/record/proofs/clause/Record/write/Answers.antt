@@ -4,7 +4,7 @@ use Rattle.number.specs.Forms.{form}
 use Rattle.number.proofs.Formed.{length-form}
 use Rattle.term.specs.declared.node.Node.{Node}
 use Rattle.word.specs.Packed.{packed, Writable}
-use Rattle.word.specs.Writes.{Wrote}
+use Rattle.number.specs.Writes.{Wrote}
 use Rattle.record.specs.Records.{literals}
 use Rattle.record.proofs.Places.{length-begins}
 use Rattle.record.proofs.Held.{nodes-of, held}

@@ -8,6 +8,6 @@ use Rattle.record.proofs.clause.packing.read_literals.Given as goal
 -- what is still to be read makes of the record what all the literals would make
 abbrev pub invariant-loop-k : goal.invariant-loop-k
 invariant-loop-k l =
-    (len (literals l.record) ≡ l.k)
+    (len (literals l.record) ≡ l.k-counter)
     × (l.seen ≡ variables (literals l.record))
-    × (read_literals (l.count - l.k) (literals l.record) l.input l.at ≡ read_literals l.count nil l.input l.initial.at)
+    × (read_literals (l.count - l.k-counter) (literals l.record) l.input l.at ≡ read_literals l.count nil l.input l.initial.at)
