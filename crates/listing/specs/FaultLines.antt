@@ -1,18 +1,8 @@
 -- The line of a fault that has layers, and the listing of one thing.
 use Rattle.std.specs.Prelude.{ℕ, List, ◌++◌, Some, None, Ok, Err, codes, decimal, Option, Result}
 use Rattle.word.specs.declared.fault.Layer.{Layer}
-use Rattle.word.specs.declared.fault.Layer.TheVariants as layer
-use Rattle.word.specs.declared.fault.WordFault.{WordFault}
-use Rattle.word.specs.declared.fault.WordFault.TheVariants.{Number, Places, Nodes, Order}
-use Rattle.listing.specs.Lines.{sentence}
+use Rattle.word.specs.Faults.{layer_name}
 use Rattle.listing.specs.Shown.{separated}
-
-abbrev pub layer_name : Layer → List ℕ
-layer_name layer.Number = codes "number"
-layer_name layer.Word = codes "word"
-layer_name layer.PlaceWord = codes "place word"
-layer_name layer.Literal = codes "literal"
-layer_name layer.Record = codes "record"
 
 -- with a comma between two
 abbrev pub layer_names : List Layer → List ℕ
@@ -22,13 +12,6 @@ layer_names ls = separated layer_name 0 ls
 abbrev pub literal_part : Option ℕ → List ℕ
 literal_part None = codes ""
 literal_part (Some k) = codes " of literal " ++ decimal k
-
--- what is wrong with a word, in words
-abbrev pub word_sentence : WordFault → List ℕ
-word_sentence (Number fault) = sentence fault
-word_sentence (Places _) = codes "a symbol has more than 8 places"
-word_sentence (Nodes _) = codes "there are more nodes than the limit (64 in a place word, 256 in a record)"
-word_sentence (Order _) = codes "a variable is not the next unused one"
 
 -- a fault, by what it tells: its question, its byte, the literal in hand and its layers; and by what is wrong, in words
 unfoldable pub layered_line : ℕ × ℕ × Option ℕ × List Layer → (why : List ℕ) → List ℕ

@@ -1,12 +1,12 @@
 // The line of a fault that has layers.
-ghost use Rattle.std.specs.Prelude.{◌≡◌, ℕ, List, Option, IfOk, string_bytes};
+ghost use Rattle.std.specs.Prelude.{◌≡◌, ℕ, List, Some, Option, IfOk, string_bytes};
 ghost use Rattle.word.specs.declared.fault.Layer.{Layer as AnyLayer};
-ghost use Rattle.listing.specs.FaultLines.{layer_name, layer_names, literal_part, layered_line, word_sentence};
+ghost use Rattle.listing.specs.FaultLines.{layer_names, literal_part, layered_line};
 ghost use Rattle.listing.specs.Shown.{separator};
 
-use super::numbers::sentence;
 use std::alloc::{AllocError, Global};
-use word::{Layer, WordFault};
+use std::fmt::Display;
+use word::Layer;
 
 // Where a fault arose: its question, its byte, the literal in hand, and what was being read.
 #[derive(Clone, Copy)]
@@ -17,8 +17,8 @@ pub(super) struct Origin {
     pub layers: &'static [Layer],
 }
 
-// A fault that has layers.
-pub(super) trait Layered: Drop {
+// A fault that has layers, and says what is wrong.
+pub(super) trait Layered: Display + Drop {
     ghost tells: { Self → ℕ × ℕ × Option ℕ × List AnyLayer };
 
     ghost says: { Self → List ℕ };
@@ -26,9 +26,7 @@ pub(super) trait Layered: Drop {
     fn origin(&self) -> Origin
         ensures { (result.question, result.byte, result.literal, result.layers.now) ≡ tells self.now };
 
-    // What is wrong, in words.
-    fn why(&self) -> &'static str
-        ensures { result.now ≡ says self.now };
+    ghost shows: { (fault : Self) → Self.output fault ≡ Some (says fault) };
 }
 
 // The line of a fault: its question, its byte, the literal in hand, its layers, and what is wrong.
@@ -41,8 +39,7 @@ pub(super) fn layered_line<F: Layered>(heap: Global, fault: &F) -> Result<String
     let byte = origin.byte;
     let part = literal_part(heap, origin.literal)?;
     let names = layer_names(heap, origin.layers)?;
-    let why = fault.why();
-    format!(in heap; "fault {question} at byte {byte}{part} in {names}: {why}\n")
+    format!(in heap; "fault {question} at byte {byte}{part} in {names}: {fault}\n")
 }
 
 // The literal in hand, if there is one.
@@ -62,7 +59,7 @@ fn layer_names(heap: Global, layers: &[Layer]) -> Result<String, AllocError>
     let mut text = String::new(heap);
     for (k, layer) in layers.iter().enumerate() {
         text.push_str(separator(k))?;
-        text.push_str(layer_name(*layer))?;
+        write!(text, "{layer}")?;
     }
     Ok(text)
 }
@@ -72,29 +69,4 @@ pub(super) fn separator(n: usize) -> &'static str
     ensures { result.now ≡ separator n }
 {
     if n == 0 { "" } else { ", " }
-}
-
-fn layer_name(layer: Layer) -> &'static str
-    ensures { result.now ≡ layer_name layer }
-{
-    match layer {
-        Layer::Number => "number",
-        Layer::Word => "word",
-        Layer::PlaceWord => "place word",
-        Layer::Literal => "literal",
-        Layer::Record => "record",
-    }
-}
-
-// What is wrong with a word, in words.
-pub(super) fn word_sentence(fault: &WordFault) -> &'static str
-    ensures { result.now ≡ word_sentence fault.now }
-{
-    match fault {
-        WordFault::Number(number) => sentence(number),
-        WordFault::Places { first: _ } => "a symbol has more than 8 places",
-        WordFault::Nodes { first: _ } =>
-            "there are more nodes than the limit (64 in a place word, 256 in a record)",
-        WordFault::Order { first: _ } => "a variable is not the next unused one",
-    }
 }

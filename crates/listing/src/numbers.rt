@@ -1,6 +1,6 @@
 // The listing of packed numbers: a line for each, then the count of them or the fault.
 ghost use Rattle.std.specs.Prelude.{◌≡◌, IfOk, string_bytes};
-ghost use Rattle.listing.specs.Lines.{number_line, count_line, fault_line, sentence};
+ghost use Rattle.listing.specs.Lines.{number_line, count_line, fault_line};
 ghost use Rattle.listing.specs.Listed.{listed, Faithful};
 
 use super::Listing;
@@ -59,17 +59,5 @@ fn fault_line(heap: Global, fault: &NumberFault) -> Result<String, AllocError>
 {
     let question = fault.question();
     let byte = fault.byte();
-    let why = sentence(fault);
-    format!(in heap; "fault {question} at byte {byte}: {why}\n")
-}
-
-// What is wrong, in words.
-pub(super) fn sentence(fault: &NumberFault) -> &'static str
-    ensures { result.now ≡ sentence fault.now }
-{
-    match fault {
-        NumberFault::Missing { end: _ } => "the input ends within a number",
-        NumberFault::TooLarge { first: _ } => "the third byte of a number is not below 4",
-        NumberFault::Padded { first: _ } => "the last byte of a number of several bytes is 0",
-    }
+    format!(in heap; "fault {question} at byte {byte}: {fault}\n")
 }

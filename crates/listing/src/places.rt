@@ -1,15 +1,14 @@
 // The listing of one place word: its legible form, or the fault.
-ghost use Rattle.std.specs.Prelude.{◌≡◌, IfOk, string_bytes};
+ghost use Rattle.std.specs.Prelude.{◌≡◌, refl, IfOk, string_bytes};
+ghost use Rattle.place.specs.Faults.{sentence};
 ghost use Rattle.place.specs.Packing.{read_place};
-ghost use Rattle.listing.specs.PlaceLines.{place_told, place_sentence, place_listed};
+ghost use Rattle.listing.specs.PlaceLines.{place_told, place_listed};
 
 use super::Listing;
 use super::faults::{Layered, Origin};
-use super::numbers::sentence;
 use super::words::show_place;
 use place::{PlaceFault, PlaceWord};
 use std::alloc::{AllocError, Global};
-use word::WordFault;
 
 // Lists the place word whose packed form the input is.
 pub fn list_place(heap: Global, input: &[u8]) -> Result<Listing<PlaceFault>, AllocError>
@@ -25,7 +24,7 @@ pub fn list_place(heap: Global, input: &[u8]) -> Result<Listing<PlaceFault>, All
 impl Layered for PlaceFault {
     ghost tells = { place_told };
 
-    ghost says = { place_sentence };
+    ghost says = { sentence };
 
     fn origin(&self) -> Origin {
         Origin {
@@ -36,14 +35,5 @@ impl Layered for PlaceFault {
         }
     }
 
-    fn why(&self) -> &'static str {
-        match self {
-            PlaceFault::Word(WordFault::Number(number)) => sentence(number),
-            PlaceFault::Word(WordFault::Places { first: _ }) => "a symbol has more than 8 places",
-            PlaceFault::Word(WordFault::Nodes { first: _ }) => "the word has more than 64 nodes",
-            PlaceFault::Word(WordFault::Order { first: _ }) =>
-                "a variable is not the next unused one",
-            PlaceFault::Left { first: _ } => "bytes are left over",
-        }
-    }
+    ghost shows = { λ fault. refl };
 }

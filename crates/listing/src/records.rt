@@ -1,16 +1,15 @@
 // Records in legible form, as {p1(X0), -q2(a3)}, and the listing of one.
-ghost use Rattle.std.specs.Prelude.{◌≡◌, IfOk, string_bytes};
-ghost use Rattle.record.specs.Faults.{told};
+ghost use Rattle.std.specs.Prelude.{◌≡◌, refl, IfOk, string_bytes};
+ghost use Rattle.record.specs.Faults.{told, sentence};
 ghost use Rattle.record.specs.Reads.{read_record};
 ghost use Rattle.record.specs.Records.{literals};
-ghost use Rattle.listing.specs.RecordLines.{literal_sentence, record_sentence, record_listed};
+ghost use Rattle.listing.specs.RecordLines.{record_listed};
 ghost use Rattle.listing.specs.Shown.{shown_clause};
 
 use super::Listing;
-use super::faults::{Layered, Origin, separator, word_sentence};
-use super::numbers::sentence;
+use super::faults::{Layered, Origin, separator};
 use super::words::show_word;
-use record::{LiteralFault, Record, RecordFault};
+use record::{Record, RecordFault};
 use std::alloc::{AllocError, Global};
 
 // Lists the record whose packed form the input is.
@@ -32,9 +31,9 @@ pub fn show_record(heap: Global, clause: &Record) -> Result<String, AllocError>
     let starts = clause.starts();
     let mut text = String::new(heap);
     text.push_str("{")?;
-    for (k, start) in starts.iter().enumerate() {
+    for (k, &start) in starts.iter().enumerate() {
         text.push_str(separator(k))?;
-        show_word(heap, &mut text, nodes, *start)?;
+        show_word(heap, &mut text, nodes, start)?;
     }
     text.push_str("}")?;
     Ok(text)
@@ -43,7 +42,7 @@ pub fn show_record(heap: Global, clause: &Record) -> Result<String, AllocError>
 impl Layered for RecordFault {
     ghost tells = { told };
 
-    ghost says = { record_sentence };
+    ghost says = { sentence };
 
     fn origin(&self) -> Origin {
         Origin {
@@ -54,26 +53,5 @@ impl Layered for RecordFault {
         }
     }
 
-    fn why(&self) -> &'static str {
-        match self {
-            RecordFault::Number(number) => sentence(number),
-            RecordFault::Literals { first: _ } => "there are more than 16 literals",
-            RecordFault::Literal(place) => literal_sentence(&place.fault),
-            RecordFault::Left { first: _ } => "bytes are left over",
-        }
-    }
-}
-
-// What is wrong with a literal, in words.
-fn literal_sentence(fault: &LiteralFault) -> &'static str
-    ensures { result.now ≡ literal_sentence fault.now }
-{
-    match fault {
-        LiteralFault::Number(number) => sentence(number),
-        LiteralFault::Word(word) => word_sentence(word),
-        LiteralFault::Places { first: _ } => "a predicate has more than 8 places",
-        LiteralFault::Nodes { first: _ } =>
-            "there are more nodes than the limit (64 in a place word, 256 in a record)",
-        LiteralFault::Repeated { first: _ } => "the literal repeats an earlier one",
-    }
+    ghost shows = { λ fault. refl };
 }
