@@ -67,8 +67,9 @@ impl fmt::Display for PlaceFault {
 
     fn fmt<W: fmt::Write>(&self, f: &mut fmt::Formatter<W>) -> fmt::Result {
         match self {
-            PlaceFault::Word(WordFault::Nodes { first: _ }) =>
-                f.write_str("the word has more than 64 nodes"),
+            PlaceFault::Word(WordFault::Nodes { first: _ }) => f.write_str(
+                "the word has more than 64 nodes",
+            ),
             PlaceFault::Word(fault) => fault.fmt(f),
             PlaceFault::Left { first: _ } => f.write_str("bytes are left over"),
         }

@@ -1,7 +1,5 @@
 -- Words read after others.
-use Rattle.std.proofs.Common.{◌≡◌, ℕ, zero, suc, ◌+◌, ◌<◌, ◌≤◌, List, [], ◌∷◌, ◌++◌, length, get_or, Ok, Err, Result, sym, refl, ap, ◌∙◌, append_assoc, append-nil}
-use Rattle.std.specs.List.{between}
-use Rattle.number.specs.Forms.{form}
+use Rattle.std.proofs.Common.{◌≡◌, ℕ, zero, suc, ◌+◌, List, [], ◌∷◌, ◌++◌, Ok, Err, Result, sym, refl, ap, ◌∙◌, append_assoc, append-nil}
 use Rattle.number.specs.Reads.{read_number}
 use Rattle.number.proofs.Answers.{clash, ok_same}
 use Rattle.term.specs.Coding.{code, codes}
@@ -12,7 +10,7 @@ use Rattle.term.proofs.Laws.{stood-more}
 use Rattle.word.specs.declared.fault.WordFault.{WordFault}
 use Rattle.word.specs.declared.fault.WordFault.TheVariants.{Number}
 use Rattle.word.specs.Packed.{seen_after}
-use Rattle.word.specs.Reads.{node_at, read_words, Gives}
+use Rattle.word.specs.Reads.{node_at, read_words}
 use Rattle.word.specs.Then.{then}
 use Rattle.word.proofs.Laws.{seen_none}
 

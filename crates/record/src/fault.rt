@@ -92,7 +92,9 @@ impl fmt::Display for LiteralFault {
             LiteralFault::Nodes { first: _ } => f.write_str(
                 "there are more nodes than the limit (64 in a place word, 256 in a record)",
             ),
-            LiteralFault::Repeated { first: _ } => f.write_str("the literal repeats an earlier one"),
+            LiteralFault::Repeated { first: _ } => f.write_str(
+                "the literal repeats an earlier one",
+            ),
         }
     }
 }

@@ -1,21 +1,10 @@
-use Rattle.std.proofs.Common.{◌≡◌, ℕ, ◌+◌, ◌-◌, Err, sym, refl, ap, ◌∙◌, arith, rules}
+use Rattle.std.proofs.Common.{◌-◌, sym, ◌∙◌, arith, rules}
 use Rattle.std.proofs.lemmas.Result.{err_from_is_err_and}
-use Rattle.term.specs.Words.{Words, nil, len}
-use Rattle.record.specs.Clauses.{variables}
+use Rattle.term.specs.Words.{nil}
 use Rattle.record.specs.Records.{literals}
-use Rattle.record.specs.Reads.{read_literal, in_literal, read_literals}
-use Rattle.record.proofs.Places.{len-push}
+use Rattle.record.specs.Reads.{read_literals}
 use Rattle.record.proofs.Turns.{literals-none, builds-read, turn-stopped, turn-more}
 use Rattle.record.proofs.clause.packing.read_literals.Goals as goal
-
-pub read_literal-requires : goal.read_literal-requires
-read_literal-requires c = record { room = omega (arith, c.loop-k.invariant.0, c.requires); counted = c.loop-k.invariant.1 }
-
-pub loop-k-init : goal.loop-k-init
-loop-k-init c =
-    let none = c.new-record.ensures in
-    let z : c.args.count - 0 ≡ c.args.count = omega arith in
-    (ap len none, sym (ap variables none), rw (none, z))
 
 pub returns-in_err-next : goal.returns-in_err-next
 returns-in_err-next c =
