@@ -11,6 +11,7 @@ use super::faults::{Layered, Origin, separator};
 use super::words::show_word;
 use record::{Record, RecordFault};
 use std::alloc::{AllocError, Global};
+use term::WordAt;
 
 // Lists the record whose packed form the input is.
 pub fn list_record(heap: Global, input: &[u8]) -> Result<Listing<RecordFault>, AllocError>
@@ -33,7 +34,7 @@ pub fn show_record(heap: Global, clause: &Record) -> Result<String, AllocError>
     text.push_str("{")?;
     for (k, &start) in starts.iter().enumerate() {
         text.push_str(separator(k))?;
-        show_word(heap, &mut text, nodes, start)?;
+        show_word(heap, &mut text, WordAt { nodes, start })?;
     }
     text.push_str("}")?;
     Ok(text)

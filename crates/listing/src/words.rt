@@ -1,39 +1,41 @@
 // Words in a legible form: X0 for a variable, a7 for a constant, f5(X0, a7) for a symbol over its places.
-ghost use Rattle.std.specs.Prelude.{◌≡◌, ◌<◌, ◌++◌, length, IfOk, string_bytes};
+ghost use Rattle.std.specs.Prelude.{◌≡◌, ◌++◌, IfOk, string_bytes};
 ghost use Rattle.place.specs.Places.{meaning};
-ghost use Rattle.term.specs.Coding.{Whole, word_at, Next};
+ghost use Rattle.term.specs.Coding.{word_at, Next};
 ghost use Rattle.listing.specs.Shown.{opening, closing, node_name, shown};
 
 use place::PlaceWord;
 use std::alloc::{AllocError, Global};
-use term::{Node, Symbol, places};
+use term::{Node, Symbol, WordAt, places};
 
 // A place word in legible form.
 pub fn show_place(heap: Global, place: &PlaceWord) -> Result<String, AllocError>
     ensures { IfOk result (λ s. string_bytes s ≡ shown (meaning place.now)) }
 {
     let mut text = String::new(heap);
-    show_word(heap, &mut text, place.nodes(), 0)?;
+    let word = WordAt {
+        nodes: place.nodes(),
+        start: 0,
+    };
+    show_word(heap, &mut text, word)?;
     Ok(text)
 }
 
-// Puts the word at `i` at the end of the text, and answers where the word ends.
+// Puts a word at the end of the text, and answers where the word ends.
 pub(super) fn show_word(
     heap: Global,
     text: &mut String,
-    nodes: &[Node],
-    i: usize,
+    word: WordAt<'_>,
 ) -> Result<usize, AllocError>
-    requires { Whole nodes.now × (i < length nodes.now) }
-    ensures { IfOk result (λ j. Next nodes.now i j × (string_bytes text.new ≡ string_bytes text.old ++ shown (word_at nodes.now i))) }
+    ensures { IfOk result (λ j. Next word.entry.nodes.now word.entry.start j × (string_bytes text.new ≡ string_bytes text.old ++ shown (word_at word.entry.nodes.now word.entry.start))) }
 {
-    let node = nodes[i];
+    let node = word.nodes[word.start];
     text.push_str(node_name(heap, node)?.as_str())?;
     let count = places(node);
-    let mut at = i + 1;
+    let mut at = word.start + 1;
     for n in 0..count {
         text.push_str(opening(n))?;
-        at = show_word(heap, text, nodes, at)?;
+        at = show_word(heap, text, word.at(at))?;
     }
     text.push_str(closing(count))?;
     Ok(at)

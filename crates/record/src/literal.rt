@@ -7,7 +7,7 @@ ghost use Rattle.record.specs.Reads.{words_from, Inside, predicate_of, head_at, 
 
 use super::fault::LiteralFault;
 use bounded::Bounded;
-use term::{Node, Symbol, same_word};
+use term::{Node, Symbol, WordAt};
 
 // How many nodes a record may have, and how many places a predicate.
 const NODES: usize = 256;
@@ -41,7 +41,11 @@ pub(super) fn add_literal(
     let head = read_head(input, at, start)?;
     let _ = nodes.push(Node::Applied(head.symbol, head.places));
     let (next, seen) = word::read_words(input, head.next, head.places as usize, nodes, seen)?;
-    if stands_among(nodes.as_slice(), starts, start) {
+    let word = WordAt {
+        nodes: nodes.as_slice(),
+        start,
+    };
+    if stands_among(word, starts) {
         return Err(LiteralFault::Repeated { first: at });
     }
     Ok((next, seen))
@@ -78,14 +82,13 @@ fn predicate(value: u16) -> Symbol
     }
 }
 
-// Whether the word at `i` is one of those that begin at `starts`.
-fn stands_among(nodes: &[Node], starts: &[usize], i: usize) -> bool
-    requires whole { Whole nodes.now × (i < length nodes.now) }
-    requires inside { Inside (length nodes.now) starts.now }
-    ensures { result ≡ stands (word_at nodes.now i) (words_from nodes.now starts.now) }
+// Whether a word is one of those that begin at `starts`.
+fn stands_among(word: WordAt<'_>, starts: &[usize]) -> bool
+    requires { Inside (length word.nodes.now) starts.now }
+    ensures { result ≡ stands (word_at word.entry.nodes.now word.entry.start) (words_from word.entry.nodes.now starts.now) }
 {
     for start in starts {
-        if same_word(nodes, i, nodes, *start) {
+        if word.is_same(word.at(*start)) {
             return true;
         }
     }

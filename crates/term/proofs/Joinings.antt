@@ -1,17 +1,18 @@
 -- The join of words at two places, place by place.
-use Rattle.std.proofs.Common.{◌≡◌, ℕ, suc, ◌+◌, ◌-◌, ◌<◌, ◌≤◌, List, [], ◌∷◌, ◌++◌, length, get_or, drop, sym, refl, ap, ◌∙◌, ap₂, append_assoc, append-nil, arith}
+use Rattle.std.proofs.Common.{◌≡◌, ℕ, suc, ◌+◌, ◌-◌, ◌<◌, ◌≤◌, List, [], ◌∷◌, ◌++◌, length, drop, sym, refl, ap, ◌∙◌, ap₂, append_assoc, append-nil, arith}
 use Rattle.std.proofs.lemmas.List.{length_push}
 use Rattle.term.specs.declared.join.Pair.{Pair}
 use Rattle.term.specs.declared.node.Node.{Node}
 use Rattle.term.specs.declared.node.Node.TheVariants.{Variable, Applied}
 use Rattle.term.specs.declared.node.Symbol.{Symbol}
+use Rattle.term.specs.declared.walk.WordAt.{WordAt}
 use Rattle.term.specs.Words.{Word, app, Words, nil, cons, len}
 use Rattle.term.specs.Coding.{places_of, code, codes, first, hd, tl, decode, Whole, words_at, word_at, Next}
 use Rattle.term.specs.Joins.{Table, alike_decided, place, enter, stand, join, joins}
 use Rattle.term.specs.Joined.{mean, Inside, Fellows, Joined}
 use Rattle.term.proofs.Cases.{by-test}
-use Rattle.term.proofs.Codings.{len-first, at_words, at-whole}
-use Rattle.term.proofs.Walked.{Walked, first_step, walked-some, walked_on, walked-first, walked-last}
+use Rattle.term.proofs.Codings.{len-first}
+use Rattle.term.proofs.Walked.{root, root-words, root-whole, Walked, first_step, walked-some, walked_on, walked-first, walked-last}
 
 pub len-joins : (us vs : Words) (T : Table) → len us ≡ len vs → len (joins us vs T).0 ≡ len us
 len-joins nil vs T e = refl
@@ -91,71 +92,71 @@ module _ (a b : List Node) where
         table = rw e (more-table (words_at a p) (words_at b q) (words_at a p') (words_at b q') m (mean a b s) (mean a b s') h l r j.left.rest j.right.rest j.table ∙ g.table);
       }
 
-  module _ (i j : ℕ) (d : Node) (hi : i < length a) (hj : j < length b) (wa : Whole a) (wb : Whole b) where
-    -- the places begin
-    pub going-first : (k m : ℕ) (o : List Node) (s : List Pair) → Fellows (get_or a i d) (get_or b j d) → k ≡ places_of (get_or a i d) → m ≡ k → Inside a b s → Going a b k m (i + 1) (j + 1) o s (i + 1) (j + 1) o s
-    going-first k m o s h e f w =
-        let z = ap places_of (fellows-same (get_or a i d) (get_or b j d) h) in
-        record {
-          left = walked-first a i d hi k m wa e f;
-          right = walked-first b j d hj k m wb (e ∙ z) f;
-          known = w;
-          room = omega arith;
-          spare = omega arith;
-          nodes = rw f refl;
-          table = rw f refl;
-        }
+module _ (a b : WordAt) where
+  -- the places begin
+  pub going-first : (k m : ℕ) (o : List Node) (s : List Pair) → Fellows (root a) (root b) → k ≡ places_of (root a) → m ≡ k → Inside a.nodes.now b.nodes.now s → Going a.nodes.now b.nodes.now k m (a.start + 1) (b.start + 1) o s (a.start + 1) (b.start + 1) o s
+  going-first k m o s h e f w =
+      let z = ap places_of (fellows-same (root a) (root b) h) in
+      record {
+        left = walked-first a.nodes.now a.start (Variable 0) a.inside k m a.whole e f;
+        right = walked-first b.nodes.now b.start (Variable 0) b.inside k m b.whole (e ∙ z) f;
+        known = w;
+        room = omega arith;
+        spare = omega arith;
+        nodes = rw f refl;
+        table = rw f refl;
+      }
 
-    -- all places are joined
-    pub going-last : (k m p q : ℕ) (o o1 o' : List Node) (s s' : List Pair) → Fellows (get_or a i d) (get_or b j d) → k ≡ places_of (get_or a i d) → m ≡ 0 → o1 ≡ o ++ get_or a i d ∷ [] →
-        Going a b k m p q o' s' (i + 1) (j + 1) o1 s → Joined a b i j p q o o' s s'
-    going-last k m p q o o1 o' s s' h e f y g =
-        let x = get_or a i d in
-        let us = words_at a (i + 1) in
-        let vs = words_at b (j + 1) in
-        let T = mean a b s in
-        let z = ap places_of (fellows-same x (get_or b j d) h) in
-        let ea = at_words a i d hi in
-        let eb = at_words b j d hj in
-        let u = over x (get_or b j d) (drop (i + 1) a) (drop (j + 1) b) T (at-whole a i d hi wa) (at-whole b j d hj wb) h in
-        let long = ap length y ∙ length_push o x in
-        let gn : o' ++ [] ≡ o1 ++ codes (joins (first k us) (first k vs) T).0 = rw f at g.nodes in
-        let gt : mean a b s' ≡ (joins (first k us) (first k vs) T).1 = rw f at g.table in
-        record {
-          left = walked-last a i d hi k m p e f g.left;
-          right = walked-last b j d hj k m q (e ∙ z) f g.right;
-          nodes =
-              sym (append-nil o') ∙ gn ∙ ap (λ (z : List Node). z ++ codes (joins (first k us) (first k vs) T).0) y
-              ∙ append_assoc o (x ∷ []) (codes (joins (first k us) (first k vs) T).0)
-              ∙ ap (λ (l : List Node). o ++ l)
-              (ap (λ (n : ℕ). x ∷ codes (joins (first n us) (first n vs) T).0) e
-              ∙ sym u.nodes ∙ ap₂ (λ (v w : Word). code (join v w T).0) (ap hd (sym ea)) (ap hd (sym eb)));
-          table =
-              gt ∙ ap (λ (n : ℕ). (joins (first n us) (first n vs) T).1) e
-              ∙ sym u.table ∙ ap₂ (λ (v w : Word). (join v w T).1) (ap hd (sym ea)) (ap hd (sym eb));
-          known = g.known;
-          room = omega (arith, g.room, g.left.from);
-          spare = omega (arith, g.spare, g.left.from);
-        }
+  -- all places are joined
+  pub going-last : (k m p q : ℕ) (o o1 o' : List Node) (s s' : List Pair) → Fellows (root a) (root b) → k ≡ places_of (root a) → m ≡ 0 → o1 ≡ o ++ root a ∷ [] →
+      Going a.nodes.now b.nodes.now k m p q o' s' (a.start + 1) (b.start + 1) o1 s → Joined a.nodes.now b.nodes.now a.start b.start p q o o' s s'
+  going-last k m p q o o1 o' s s' h e f y g =
+      let x = root a in
+      let us = words_at a.nodes.now (a.start + 1) in
+      let vs = words_at b.nodes.now (b.start + 1) in
+      let T = mean a.nodes.now b.nodes.now s in
+      let z = ap places_of (fellows-same x (root b) h) in
+      let ea = root-words a in
+      let eb = root-words b in
+      let u = over x (root b) (drop (a.start + 1) a.nodes.now) (drop (b.start + 1) b.nodes.now) T (root-whole a) (root-whole b) h in
+      let long = ap length y ∙ length_push o x in
+      let gn : o' ++ [] ≡ o1 ++ codes (joins (first k us) (first k vs) T).0 = rw f at g.nodes in
+      let gt : mean a.nodes.now b.nodes.now s' ≡ (joins (first k us) (first k vs) T).1 = rw f at g.table in
+      record {
+        left = walked-last a.nodes.now a.start (Variable 0) a.inside k m p e f g.left;
+        right = walked-last b.nodes.now b.start (Variable 0) b.inside k m q (e ∙ z) f g.right;
+        nodes =
+            sym (append-nil o') ∙ gn ∙ ap (λ (z : List Node). z ++ codes (joins (first k us) (first k vs) T).0) y
+            ∙ append_assoc o (x ∷ []) (codes (joins (first k us) (first k vs) T).0)
+            ∙ ap (λ (l : List Node). o ++ l)
+            (ap (λ (n : ℕ). x ∷ codes (joins (first n us) (first n vs) T).0) e
+            ∙ sym u.nodes ∙ ap₂ (λ (v w : Word). code (join v w T).0) (ap hd (sym ea)) (ap hd (sym eb)));
+        table =
+            gt ∙ ap (λ (n : ℕ). (joins (first n us) (first n vs) T).1) e
+            ∙ sym u.table ∙ ap₂ (λ (v w : Word). (join v w T).1) (ap hd (sym ea)) (ap hd (sym eb));
+        known = g.known;
+        room = omega (arith, g.room, g.left.from);
+        spare = omega (arith, g.spare, g.left.from);
+      }
 
-    -- other words: the variable of their pair
-    pub stands : (p q n : ℕ) (o o' : List Node) (s s' : List Pair) → ¬ Fellows (get_or a i d) (get_or b j d) → Next a i p → Next b j q →
-        n ≡ place (mean a b s) (word_at a i) (word_at b j) → mean a b s' ≡ enter (mean a b s) (word_at a i) (word_at b j) → Inside a b s' → length s' ≤ length s + 1 →
-        o' ≡ o ++ Variable n ∷ [] → Joined a b i j p q o o' s s'
-    stands p q n o o' s s' h l r e f w t y =
-        let ea = at_words a i d hi in
-        let eb = at_words b j d hj in
-        let z : join (word_at a i) (word_at b j) (mean a b s) ≡ stand (word_at a i) (word_at b j) (mean a b s) =
-        ap₂ (λ (v w : Word). join v w (mean a b s)) (ap hd ea) (ap hd eb)
-        ∙ apart (get_or a i d) (get_or b j d) (drop (i + 1) a) (drop (j + 1) b) (mean a b s) (at-whole a i d hi wa) (at-whole b j d hj wb) h
-        ∙ ap₂ (λ (v w : Word). stand v w (mean a b s)) (ap hd (sym ea)) (ap hd (sym eb)) in
-        let long = ap length y ∙ length_push o (Variable n) in
-        record {
-          left = l;
-          right = r;
-          nodes = y ∙ ap (λ (m : ℕ). o ++ Variable m ∷ []) e ∙ ap (λ (x : Word × Table). o ++ code x.0) (sym z);
-          table = f ∙ ap (λ (x : Word × Table). x.1) (sym z);
-          known = w;
-          room = omega (arith, l.later, l.within);
-          spare = omega (arith, l.later, l.within);
-        }
+  -- other words: the variable of their pair
+  pub stands : (p q n : ℕ) (o o' : List Node) (s s' : List Pair) → ¬ Fellows (root a) (root b) → Next a.nodes.now a.start p → Next b.nodes.now b.start q →
+      n ≡ place (mean a.nodes.now b.nodes.now s) (word_at a.nodes.now a.start) (word_at b.nodes.now b.start) → mean a.nodes.now b.nodes.now s' ≡ enter (mean a.nodes.now b.nodes.now s) (word_at a.nodes.now a.start) (word_at b.nodes.now b.start) → Inside a.nodes.now b.nodes.now s' → length s' ≤ length s + 1 →
+      o' ≡ o ++ Variable n ∷ [] → Joined a.nodes.now b.nodes.now a.start b.start p q o o' s s'
+  stands p q n o o' s s' h l r e f w t y =
+      let ea = root-words a in
+      let eb = root-words b in
+      let z : join (word_at a.nodes.now a.start) (word_at b.nodes.now b.start) (mean a.nodes.now b.nodes.now s) ≡ stand (word_at a.nodes.now a.start) (word_at b.nodes.now b.start) (mean a.nodes.now b.nodes.now s) =
+      ap₂ (λ (v w : Word). join v w (mean a.nodes.now b.nodes.now s)) (ap hd ea) (ap hd eb)
+      ∙ apart (root a) (root b) (drop (a.start + 1) a.nodes.now) (drop (b.start + 1) b.nodes.now) (mean a.nodes.now b.nodes.now s) (root-whole a) (root-whole b) h
+      ∙ ap₂ (λ (v w : Word). stand v w (mean a.nodes.now b.nodes.now s)) (ap hd (sym ea)) (ap hd (sym eb)) in
+      let long = ap length y ∙ length_push o (Variable n) in
+      record {
+        left = l;
+        right = r;
+        nodes = y ∙ ap (λ (m : ℕ). o ++ Variable m ∷ []) e ∙ ap (λ (x : Word × Table). o ++ code x.0) (sym z);
+        table = f ∙ ap (λ (x : Word × Table). x.1) (sym z);
+        known = w;
+        room = omega (arith, l.later, l.within);
+        spare = omega (arith, l.later, l.within);
+      }

@@ -4,26 +4,21 @@ use Rattle.std.proofs.lemmas.Bool.{cases_eq, false≢true, and_parts, leb-true}
 use Rattle.term.specs.declared.node.Node.{Node}
 use Rattle.term.specs.declared.node.Node.TheVariants.{Variable, Applied}
 use Rattle.term.specs.declared.node.Symbol.{Symbol}
+use Rattle.term.specs.declared.walk.WordAt.{WordAt}
 use Rattle.term.specs.Words.{Word, var, app, Words, cons, len, sub, subs}
 use Rattle.term.specs.Coding.{places_of, first, hd, tl, decode, Whole, words_at, word_at, Next}
 use Rattle.term.specs.Joined.{Fellows}
 use Rattle.term.specs.Lawful.{functional, lawful}
 use Rattle.term.specs.Matched.{Bindings, Below, Placed, Agrees, Narrowed, Matched}
 use Rattle.term.proofs.Substitutions.{len-subs}
-use Rattle.term.proofs.Codings.{len-first, at_words, at-whole}
-use Rattle.term.proofs.Walked.{Walked, first_step, walked-some, walked_on, walked-first, walked-last}
+use Rattle.term.proofs.Codings.{len-first}
+use Rattle.term.proofs.Walked.{root, root-words, root-whole, Walked, first_step, walked-some, walked_on, walked-first, walked-last}
 use Rattle.term.proofs.Joinings.{fellows-same}
-
-some_same : (p q : ℕ) → Some p ≡ Some q → p ≡ q
-some_same p q e = cc
 
 none-bound : (n x : ℕ) → ◌≡◌ {A = Option ℕ} (get_or (replicate n None) x None) None
 none-bound zero x = refl
 none-bound (suc n) zero = refl
 none-bound (suc n) (suc x) = none-bound n x
-
-none-some : (q : ℕ) → None ≡ Some q → ⊥
-none-some q e = let z : ◌≡◌ {A = ℕ} 0 1 = cc in omega arith
 
 -- a variable that stands for nothing yet
 pub bind-new : (target : List Node) (bound : Bindings) (x j : ℕ) → j < length target → Placed target bound → x < length bound → get_or bound x None ≡ None →
@@ -33,19 +28,19 @@ bind-new target bound x j h p k e =
     let here : get_or (set bound x (Some j)) x None ≡ Some j = get_or-set_same bound x (Some j) None k in
     record {
       placed = λ y q f. elim (cases_eq y x) [
-        | inl z ↦ let s : j ≡ q = some_same j q (sym here ∙ ap (λ (n : ℕ). get_or (set bound x (Some j)) n None) (sym z) ∙ f) in omega arith
+        | inl z ↦ let s : j ≡ q = cc in omega arith
         | inr n ↦ p y q (sym (get_or-set_other bound x y (Some j) None n) ∙ f)
       ];
       back = λ θ a. (
         λ y q f. elim (cases_eq y x) [
-          | inl z ↦ absurd (none-some q (sym e ∙ ap (λ (n : ℕ). get_or bound n None) (sym z) ∙ f))
+          | inl z ↦ cc
           | inr n ↦ a y q (get_or-set_other bound x y (Some j) None n ∙ f)
         ],
         a x j here,
       );
       on = λ θ a t y q f. elim (cases_eq y x) [
         | inl z ↦
-            let s : j ≡ q = some_same j q (sym here ∙ ap (λ (n : ℕ). get_or (set bound x (Some j)) n None) (sym z) ∙ f) in
+            let s : j ≡ q = cc in
             ap θ z ∙ t ∙ ap (word_at target) s
         | inr n ↦ a y q (sym (get_or-set_other bound x y (Some j) None n) ∙ f)
       ];
@@ -77,7 +72,7 @@ unfolding Below
 below_at n [] i x d b h e = absurd (omega arith)
 below_at n (Variable y ∷ nodes) zero x d b h e = let s : y ≡ x = cc in omega (arith, b.0)
 below_at n (Variable y ∷ nodes) (suc i) x d b h e = below_at n nodes i x d b.1 (omega arith) e
-below_at n (Applied s k ∷ nodes) zero x d b h e = absurd (let z : ◌≡◌ {A = ℕ} 0 1 = cc in omega arith)
+below_at n (Applied s k ∷ nodes) zero x d b h e = cc
 below_at n (Applied s k ∷ nodes) (suc i) x d b h e = below_at n nodes i x d b (omega arith) e
 
 pub below_more : (m n : ℕ) (nodes : List Node) → m ≤ n → Below m nodes → Below n nodes
@@ -111,7 +106,7 @@ app-parts s t us vs e = (cc, cc)
 pub turns-never : (x y : Node) (r s : List Node) → Whole (x ∷ r) → Whole (y ∷ s) → ((v : ℕ) → x ≡ Variable v → ⊥) → ¬ Fellows x y → (θ : ℕ → Word) → sub θ (hd (decode (x ∷ r))) ≡ hd (decode (y ∷ s)) → ⊥
 unfolding decode Whole
 turns-never (Variable v) y r s a b n f θ e = n v refl
-turns-never (Applied f k) (Variable y) r s a b n h θ e = let z : ◌≡◌ {A = ℕ} 0 1 = cc in omega arith
+turns-never (Applied f k) (Variable y) r s a b n h θ e = cc
 turns-never (Applied f k) (Applied g l) r s a b n h θ e =
     let us = first k (decode r) in
     let p = app-parts f g (subs θ us) (first l (decode s)) e in
@@ -173,64 +168,64 @@ module _ (P B : List Node) where
     pub going-never : Matched P p B q bound None bound → (θ : ℕ → Word) → Agrees B bound0 θ → subs θ (first k (words_at P p0)) ≡ first k (words_at B q0) → ⊥
     going-never w θ a t = let b = g.on θ a t in w θ b.0 ((one_word θ).0 b.1).0
 
-  module _ (i j : ℕ) (d : Node) (hi : i < length P) (hj : j < length B) (wa : Whole P) (wb : Whole B) where
-    -- a variable
-    pub match-variable : (x q : ℕ) (before after : Bindings) → get_or P i d ≡ Variable x → Next B j q → Narrowed B before after (λ θ. θ x ≡ word_at B j) → Matched P i B j before (Some (i + 1, q)) after
-    match-variable x q before after e n w =
-        let is : word_at P i ≡ var x = ap hd (at_words P i d hi) ∙ turns-variable (get_or P i d) (drop (i + 1) P) x e in
-        let none : 0 ≡ places_of (get_or P i d) = sym (ap places_of e) in (
-          walked-last P i d hi 0 0 (i + 1) none refl (walked-first P i d hi 0 0 wa none refl),
-          n,
-          subst (λ (u : Word). Narrowed B before after (λ θ. sub θ u ≡ word_at B j)) (sym is) w,
+module _ (P B : WordAt) where
+  -- a variable
+  pub match-variable : (x q : ℕ) (before after : Bindings) → root P ≡ Variable x → Next B.nodes.now B.start q → Narrowed B.nodes.now before after (λ θ. θ x ≡ word_at B.nodes.now B.start) → Matched P.nodes.now P.start B.nodes.now B.start before (Some (P.start + 1, q)) after
+  match-variable x q before after e n w =
+      let is : word_at P.nodes.now P.start ≡ var x = ap hd (root-words P) ∙ turns-variable (root P) (drop (P.start + 1) P.nodes.now) x e in
+      let none : 0 ≡ places_of (root P) = sym (ap places_of e) in (
+        walked-last P.nodes.now P.start (Variable 0) P.inside 0 0 (P.start + 1) none refl (walked-first P.nodes.now P.start (Variable 0) P.inside 0 0 P.whole none refl),
+        n,
+        subst (λ (u : Word). Narrowed B.nodes.now before after (λ θ. sub θ u ≡ word_at B.nodes.now B.start)) (sym is) w,
+      )
+
+  pub match-variable-never : (x : ℕ) (before after : Bindings) → root P ≡ Variable x → ((θ : ℕ → Word) → Agrees B.nodes.now before θ → θ x ≡ word_at B.nodes.now B.start → ⊥) → Matched P.nodes.now P.start B.nodes.now B.start before None after
+  match-variable-never x before after e n θ a t =
+      let is : word_at P.nodes.now P.start ≡ var x = ap hd (root-words P) ∙ turns-variable (root P) (drop (P.start + 1) P.nodes.now) x e in
+      n θ a (ap (sub θ) (sym is) ∙ t)
+
+  -- other symbols
+  pub match-never : (before after : Bindings) → ((v : ℕ) → root P ≡ Variable v → ⊥) → ¬ Fellows (root P) (root B) → Matched P.nodes.now P.start B.nodes.now B.start before None after
+  match-never before after n f θ a t =
+      turns-never (root P) (root B) (drop (P.start + 1) P.nodes.now) (drop (B.start + 1) B.nodes.now) (root-whole P) (root-whole B) n f θ
+      (ap (sub θ) (ap hd (sym (root-words P))) ∙ t ∙ ap hd (root-words B))
+
+  -- the same symbol
+  module _ (f : Fellows (root P) (root B)) (k : ℕ) (e : k ≡ places_of (root P)) where
+    in-places : (θ : ℕ → Word) → (sub θ (word_at P.nodes.now P.start) ≡ word_at B.nodes.now B.start → subs θ (first k (words_at P.nodes.now (P.start + 1))) ≡ first k (words_at B.nodes.now (B.start + 1)))
+        × (subs θ (first k (words_at P.nodes.now (P.start + 1))) ≡ first k (words_at B.nodes.now (B.start + 1)) → sub θ (word_at P.nodes.now P.start) ≡ word_at B.nodes.now B.start)
+    in-places θ =
+        let t = turns-places (root P) (root B) (drop (P.start + 1) P.nodes.now) (drop (B.start + 1) B.nodes.now) f θ in
+        let ep = ap hd (root-words P) in
+        let eb = ap hd (root-words B) in
+        (λ h. rw e (t.0 (ap (sub θ) (sym ep) ∙ h ∙ eb)), λ h. ap (sub θ) ep ∙ t.1 (rw e at h) ∙ sym eb)
+
+    pub going-first : (m : ℕ) (bound : Bindings) → m ≡ k → Placed B.nodes.now bound → Going P.nodes.now B.nodes.now k m (P.start + 1) (B.start + 1) bound (P.start + 1) (B.start + 1) bound
+    going-first m bound z w =
+        let same = ap places_of (fellows-same (root P) (root B) f) in
+        record {
+          left = walked-first P.nodes.now P.start (Variable 0) P.inside k m P.whole e z;
+          right = walked-first B.nodes.now B.start (Variable 0) B.inside k m B.whole (e ∙ same) z;
+          placed = w;
+          on = λ θ a t. (a, rw z t);
+          back = λ θ a t. (a, rw z at t);
+        }
+
+    pub going-last : (m p q : ℕ) (before after : Bindings) → m ≡ 0 → Going P.nodes.now B.nodes.now k m p q after (P.start + 1) (B.start + 1) before → Matched P.nodes.now P.start B.nodes.now B.start before (Some (p, q)) after
+    going-last m p q before after z g =
+        let same = ap places_of (fellows-same (root P) (root B) f) in
+        let done : (θ : ℕ → Word) → subs θ (first m (words_at P.nodes.now p)) ≡ first m (words_at B.nodes.now q) = λ θ. rw z refl in (
+          walked-last P.nodes.now P.start (Variable 0) P.inside k m p e z g.left,
+          walked-last B.nodes.now B.start (Variable 0) B.inside k m q (e ∙ same) z g.right,
+          record {
+            placed = g.placed;
+            back = λ θ a. let b = g.back θ a (done θ) in (b.0, (in-places θ).1 b.1);
+            on = λ θ a t. (g.on θ a ((in-places θ).0 t)).0;
+          },
         )
 
-    pub match-variable-never : (x : ℕ) (before after : Bindings) → get_or P i d ≡ Variable x → ((θ : ℕ → Word) → Agrees B before θ → θ x ≡ word_at B j → ⊥) → Matched P i B j before None after
-    match-variable-never x before after e n θ a t =
-        let is : word_at P i ≡ var x = ap hd (at_words P i d hi) ∙ turns-variable (get_or P i d) (drop (i + 1) P) x e in
-        n θ a (ap (sub θ) (sym is) ∙ t)
-
-    -- other symbols
-    pub match-never : (before after : Bindings) → ((v : ℕ) → get_or P i d ≡ Variable v → ⊥) → ¬ Fellows (get_or P i d) (get_or B j d) → Matched P i B j before None after
-    match-never before after n f θ a t =
-        turns-never (get_or P i d) (get_or B j d) (drop (i + 1) P) (drop (j + 1) B) (at-whole P i d hi wa) (at-whole B j d hj wb) n f θ
-        (ap (sub θ) (ap hd (sym (at_words P i d hi))) ∙ t ∙ ap hd (at_words B j d hj))
-
-    -- the same symbol
-    module _ (f : Fellows (get_or P i d) (get_or B j d)) (k : ℕ) (e : k ≡ places_of (get_or P i d)) where
-      in-places : (θ : ℕ → Word) → (sub θ (word_at P i) ≡ word_at B j → subs θ (first k (words_at P (i + 1))) ≡ first k (words_at B (j + 1)))
-          × (subs θ (first k (words_at P (i + 1))) ≡ first k (words_at B (j + 1)) → sub θ (word_at P i) ≡ word_at B j)
-      in-places θ =
-          let t = turns-places (get_or P i d) (get_or B j d) (drop (i + 1) P) (drop (j + 1) B) f θ in
-          let ep = ap hd (at_words P i d hi) in
-          let eb = ap hd (at_words B j d hj) in
-          (λ h. rw e (t.0 (ap (sub θ) (sym ep) ∙ h ∙ eb)), λ h. ap (sub θ) ep ∙ t.1 (rw e at h) ∙ sym eb)
-
-      pub going-first : (m : ℕ) (bound : Bindings) → m ≡ k → Placed B bound → Going P B k m (i + 1) (j + 1) bound (i + 1) (j + 1) bound
-      going-first m bound z w =
-          let same = ap places_of (fellows-same (get_or P i d) (get_or B j d) f) in
-          record {
-            left = walked-first P i d hi k m wa e z;
-            right = walked-first B j d hj k m wb (e ∙ same) z;
-            placed = w;
-            on = λ θ a t. (a, rw z t);
-            back = λ θ a t. (a, rw z at t);
-          }
-
-      pub going-last : (m p q : ℕ) (before after : Bindings) → m ≡ 0 → Going P B k m p q after (i + 1) (j + 1) before → Matched P i B j before (Some (p, q)) after
-      going-last m p q before after z g =
-          let same = ap places_of (fellows-same (get_or P i d) (get_or B j d) f) in
-          let done : (θ : ℕ → Word) → subs θ (first m (words_at P p)) ≡ first m (words_at B q) = λ θ. rw z refl in (
-            walked-last P i d hi k m p e z g.left,
-            walked-last B j d hj k m q (e ∙ same) z g.right,
-            record {
-              placed = g.placed;
-              back = λ θ a. let b = g.back θ a (done θ) in (b.0, (in-places θ).1 b.1);
-              on = λ θ a t. (g.on θ a ((in-places θ).0 t)).0;
-            },
-          )
-
-      pub going-stops : (m p q : ℕ) (before bound after : Bindings) → 0 < m → Going P B k m p q bound (i + 1) (j + 1) before → Matched P p B q bound None after → Matched P i B j before None after
-      going-stops m p q before bound after h g w θ a t = going-never k m p q bound (i + 1) (j + 1) before h g w θ a ((in-places θ).0 t)
+    pub going-stops : (m p q : ℕ) (before bound after : Bindings) → 0 < m → Going P.nodes.now B.nodes.now k m p q bound (P.start + 1) (B.start + 1) before → Matched P.nodes.now p B.nodes.now q bound None after → Matched P.nodes.now P.start B.nodes.now B.start before None after
+    going-stops m p q before bound after h g w θ a t = going-never P.nodes.now B.nodes.now k m p q bound (P.start + 1) (B.start + 1) before h g w θ a ((in-places θ).0 t)
 
 -- some substitution agrees with the bindings
 put : List Node → ℕ → Option ℕ → Word
@@ -244,8 +239,8 @@ agreeing target bound = (λ x. put target x (get_or bound x None), λ x q e. ap 
 -- where nothing is bound, every substitution agrees
 pub none-placed : (target : List Node) (n : ℕ) → Placed target (replicate n None)
 unfolding Placed
-none-placed target n x q e = absurd (none-some q (sym (none-bound n x) ∙ e))
+none-placed target n x q e = cc (none-bound n x)
 
 pub none-agrees : (target : List Node) (n : ℕ) (θ : ℕ → Word) → Agrees target (replicate n None) θ
 unfolding Agrees
-none-agrees target n θ x q e = absurd (none-some q (sym (none-bound n x) ∙ e))
+none-agrees target n θ x q e = cc (none-bound n x)

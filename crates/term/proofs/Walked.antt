@@ -2,9 +2,10 @@
 use Rattle.std.proofs.Common.{◌≡◌, ℕ, zero, suc, ◌+◌, ◌-◌, ◌<◌, ◌≤◌, List, ◌∷◌, length, get_or, drop, sym, refl, ap, ◌∙◌, sub-one, arith}
 use Rattle.term.specs.declared.node.Node.{Node}
 use Rattle.term.specs.declared.node.Node.TheVariants.{Variable, Applied}
+use Rattle.term.specs.declared.walk.WordAt.{WordAt}
 use Rattle.term.specs.Words.{Words, nil, cons, len}
 use Rattle.term.specs.Coding.{places_of, first, after, hd, tl, decode, Whole, words_at, Next}
-use Rattle.term.proofs.Codings.{len-tl, at_words, len-at, on, words-in}
+use Rattle.term.proofs.Codings.{len-tl, at_words, at-whole, len-at, on, words-in}
 
 pub first_step : (m : ℕ) (us : Words) → 0 < m → 1 ≤ len us → first m us ≡ cons (hd us) (first (m - 1) (tl us))
 first_step zero us p q = absurd (omega arith)
@@ -20,6 +21,16 @@ pub tl-places : (x : Node) (nodes : List Node) → tl (decode (x ∷ nodes)) ≡
 unfolding decode
 tl-places (Variable x) nodes = refl
 tl-places (Applied s k) nodes = refl
+
+-- the first node of a word, and the nodes from it on
+abbrev pub root : WordAt → Node
+root w = get_or w.nodes.now w.start (Variable 0)
+
+pub root-words : (w : WordAt) → words_at w.nodes.now w.start ≡ decode (root w ∷ drop (w.start + 1) w.nodes.now)
+root-words w = at_words w.nodes.now w.start (Variable 0) w.inside
+
+pub root-whole : (w : WordAt) → Whole (root w ∷ drop (w.start + 1) w.nodes.now)
+root-whole w = at-whole w.nodes.now w.start (Variable 0) w.inside w.whole
 
 -- of the k words from start on, m are still to come, from p on
 pub record Walked (nodes : List Node) (k m p start : ℕ) : Type 0 where

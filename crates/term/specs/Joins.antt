@@ -1,7 +1,7 @@
 -- The join of two words: their least general generalisation.
 use Rattle.std.specs.Prelude.{◌≡◌, ℕ, suc, List, [], ◌∷◌}
 use Rattle.std.proofs.Math.Logic.{ite}
-use Rattle.std.proofs.Common.{ap, arith}
+use Rattle.std.proofs.Common.{ap}
 use Rattle.std.proofs.Math.Decide.{ℕ_discrete}
 use Rattle.term.specs.declared.node.Symbol.{Symbol}
 use Rattle.term.specs.declared.node.Symbol.TheVariants.{Function, Positive, Negative}
@@ -13,22 +13,12 @@ both_decided (yes a) (no n) = no (λ h. n h.1)
 both_decided (no n) b = no (λ h. n h.0)
 
 -- whether two symbols are the same
-abbrev sort : Symbol → ℕ
-sort (Function f) = 0
-sort (Positive p) = 1
-sort (Negative p) = 2
-
 unfoldable pub Symbol-discrete : Discrete Symbol
 unfolding ℕ_discrete
 Symbol-discrete (Function f) (Function g) = elim (ℕ_discrete f g) [ yes e ↦ yes (ap Function e) | no n ↦ no (λ h. n (cc)) ]
 Symbol-discrete (Positive p) (Positive q) = elim (ℕ_discrete p q) [ yes e ↦ yes (ap Positive e) | no n ↦ no (λ h. n (cc)) ]
 Symbol-discrete (Negative p) (Negative q) = elim (ℕ_discrete p q) [ yes e ↦ yes (ap Negative e) | no n ↦ no (λ h. n (cc)) ]
-Symbol-discrete (Function f) (Positive q) = no (λ h. let z = ap sort h in omega arith)
-Symbol-discrete (Function f) (Negative q) = no (λ h. let z = ap sort h in omega arith)
-Symbol-discrete (Positive p) (Function g) = no (λ h. let z = ap sort h in omega arith)
-Symbol-discrete (Positive p) (Negative q) = no (λ h. let z = ap sort h in omega arith)
-Symbol-discrete (Negative p) (Function g) = no (λ h. let z = ap sort h in omega arith)
-Symbol-discrete (Negative p) (Positive q) = no (λ h. let z = ap sort h in omega arith)
+Symbol-discrete s t = no (λ h. cc)
 
 -- whether two words begin with the same symbol and count of places
 abbrev pub Alike : Symbol → Words → Symbol → Words → Type 0

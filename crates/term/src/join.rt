@@ -1,11 +1,11 @@
 // Joins words: their least general generalisation, place by place, over one table of pairs.
 ghost use Rattle.std.specs.Prelude.{◌≡◌, ◌+◌, ◌-◌, ◌<◌, ◌≤◌, length, Decides};
 ghost use Rattle.bounded.specs.Elems.{elems};
-ghost use Rattle.term.specs.Coding.{Whole, word_at};
+ghost use Rattle.term.specs.Coding.{word_at};
 ghost use Rattle.term.specs.Joins.{place, enter};
 ghost use Rattle.term.specs.Joined.{mean, Inside, Fellows, Joined};
 
-use super::{Node, next_word, places, same_word};
+use super::{Node, WordAt, places};
 use bounded::Bounded;
 
 // An ordered pair of words, by where they stand. Its variable is its place among the pairs.
@@ -25,67 +25,57 @@ pub fn fellows(x: Node, y: Node) -> bool
     }
 }
 
-// The variable of the pair of the words at `i` and `j`. A pair that is new comes last.
+// The variable of the pair of two words. A pair that is new comes last.
 pub fn variable_of<const N: usize>(
     pairs: &mut Bounded<Pair, N>,
-    a: &[Node],
-    i: usize,
-    b: &[Node],
-    j: usize,
+    a: WordAt<'_>,
+    b: WordAt<'_>,
 ) -> u16
-    requires left { Whole a.now × (i < length a.now) }
-    requires right { Whole b.now × (j < length b.now) }
-    requires known { Inside a.now b.now (elems pairs.old) }
+    requires known { Inside a.nodes.now b.nodes.now (elems pairs.old) }
     requires room { length (elems pairs.old) < N }
     requires limit { N ≤ 65536 }
-    ensures number { result ≡ place (mean a.now b.now (elems pairs.old)) (word_at a.now i) (word_at b.now j) }
-    ensures table { mean a.now b.now (elems pairs.new) ≡ enter (mean a.now b.now (elems pairs.old)) (word_at a.now i) (word_at b.now j) }
-    ensures known { Inside a.now b.now (elems pairs.new) }
+    ensures number { result ≡ place (mean a.entry.nodes.now b.entry.nodes.now (elems pairs.old)) (word_at a.entry.nodes.now a.entry.start) (word_at b.entry.nodes.now b.entry.start) }
+    ensures table { mean a.entry.nodes.now b.entry.nodes.now (elems pairs.new) ≡ enter (mean a.entry.nodes.now b.entry.nodes.now (elems pairs.old)) (word_at a.entry.nodes.now a.entry.start) (word_at b.entry.nodes.now b.entry.start) }
+    ensures known { Inside a.entry.nodes.now b.entry.nodes.now (elems pairs.new) }
     ensures size { length (elems pairs.new) ≤ length (elems pairs.old) + 1 }
 {
     let count = pairs.len();
-    let all = pairs.as_slice();
-    for k in 0..count {
-        let pair = all[k];
-        if same_word(a, i, a, pair.left) && same_word(b, j, b, pair.right) {
+    for (k, pair) in pairs.as_slice().iter().enumerate() {
+        if a.is_same(a.at(pair.left)) && b.is_same(b.at(pair.right)) {
             return k as u16;
         }
     }
-    let _ = pairs.push(Pair { left: i, right: j });
+    let _ = pairs.push(Pair {
+        left: a.start,
+        right: b.start,
+    });
     count as u16
 }
 
-// Joins the words at `i` and `j`: puts the nodes of their join at the end of `out`, and answers where the words end.
+// Joins two words: puts the nodes of their join at the end of `out`, and answers where the words end.
 pub fn join_word<const N: usize>(
-    a: &[Node],
-    i: usize,
-    b: &[Node],
-    j: usize,
+    a: WordAt<'_>,
+    b: WordAt<'_>,
     out: &mut Bounded<Node, N>,
     pairs: &mut Bounded<Pair, N>,
 ) -> (usize, usize)
-    requires left { Whole a.now × (i < length a.now) }
-    requires right { Whole b.now × (j < length b.now) }
-    requires known { Inside a.now b.now (elems pairs.old) }
-    requires room { length (elems out.old) + (length a.now - i) ≤ N }
-    requires spare { length (elems pairs.old) + (length a.now - i) ≤ N }
+    requires known { Inside a.nodes.now b.nodes.now (elems pairs.old) }
+    requires room { length (elems out.old) + (length a.nodes.now - a.start) ≤ N }
+    requires spare { length (elems pairs.old) + (length a.nodes.now - a.start) ≤ N }
     requires limit { N ≤ 65536 }
-    ensures { Joined a.now b.now i j result.0 result.1 (elems out.old) (elems out.new) (elems pairs.old) (elems pairs.new) }
+    ensures { Joined a.entry.nodes.now b.entry.nodes.now a.entry.start b.entry.start result.0 result.1 (elems out.old) (elems out.new) (elems pairs.old) (elems pairs.new) }
 {
-    let node = a[i];
-    if !fellows(node, b[j]) {
-        let x = variable_of(pairs, a, i, b, j);
+    let node = a.nodes[a.start];
+    if !fellows(node, b.nodes[b.start]) {
+        let x = variable_of(pairs, a, b);
         let _ = out.push(Node::Variable(x));
-        return (next_word(a, i), next_word(b, j));
+        return (a.end(), b.end());
     }
     let _ = out.push(node);
-    let count = places(node);
-    let mut p = i + 1;
-    let mut q = j + 1;
-    for n in 0..count {
-        let (next_p, next_q) = join_word(a, p, b, q, out, pairs);
-        p = next_p;
-        q = next_q;
+    let mut p = a.start + 1;
+    let mut q = b.start + 1;
+    for _ in 0..places(node) {
+        (p, q) = join_word(a.at(p), b.at(q), out, pairs);
     }
     (p, q)
 }

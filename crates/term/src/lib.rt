@@ -9,4 +9,4 @@ mod walk;
 pub use join::{Pair, fellows, join_word, variable_of};
 pub use matching::match_word;
 pub use node::{Node, Symbol};
-pub use walk::{next_word, places, same_word};
+pub use walk::{WordAt, places};

@@ -1,62 +1,52 @@
 // Matches words: finds the substitution that turns one into another, place by place.
-ghost use Rattle.std.specs.Prelude.{◌≡◌, ℕ, ◌<◌, true, length, MatchBool, ◌≢◌};
+ghost use Rattle.std.specs.Prelude.{◌≡◌, ℕ, ◌<◌, length, MatchBool, ◌≢◌};
 ghost use Rattle.term.specs.Words.{Word};
-ghost use Rattle.term.specs.Coding.{Whole, word_at};
+ghost use Rattle.term.specs.Coding.{word_at};
 ghost use Rattle.term.specs.Matched.{Below, Placed, Agrees, Narrowed, Matched};
 
 use super::join::fellows;
-use super::{Node, next_word, places, same_word};
+use super::{Node, WordAt, places};
 
-// Lets the variable `x` stand for the word at `j`, unless it stands for another word already.
-fn bind(target: &[Node], j: usize, bound: &mut [Option<usize>], x: u16) -> bool
-    requires whole { Whole target.now × (j < length target.now) }
-    requires placed { Placed target.now bound.old }
+// Lets the variable `x` stand for the target, unless it stands for another word already.
+fn bind(target: WordAt<'_>, bound: &mut [Option<usize>], x: u16) -> bool
+    requires placed { Placed target.nodes.now bound.old }
     requires known { x < length bound.old }
-    ensures { MatchBool result (Narrowed target.now bound.old bound.new (λ θ. θ x ≡ word_at target.now j)) ((θ : ℕ → Word) → Agrees target.now bound.old θ → θ x ≢ word_at target.now j) }
+    ensures { MatchBool result (Narrowed target.entry.nodes.now bound.old bound.new (λ θ. θ x ≡ word_at target.entry.nodes.now target.entry.start)) ((θ : ℕ → Word) → Agrees target.entry.nodes.now bound.old θ → θ x ≢ word_at target.entry.nodes.now target.entry.start) }
 {
     match bound[x as usize] {
-        Some(q) => same_word(target, q, target, j),
+        Some(start) => target.at(start).is_same(target),
         None => {
-            bound[x as usize] = Some(j);
+            bound[x as usize] = Some(target.start);
             true
         }
     }
 }
 
-// Matches the word at `i` of the pattern with the word at `j` of the target. Answers where the words end, or none where
-// no substitution that agrees with the bindings turns the one into the other.
+// Matches the pattern with the target. Answers where the two words end, or none where no substitution that agrees with
+// the bindings turns the one into the other.
 pub fn match_word(
-    pattern: &[Node],
-    i: usize,
-    target: &[Node],
-    j: usize,
+    pattern: WordAt<'_>,
+    target: WordAt<'_>,
     bound: &mut [Option<usize>],
 ) -> Option<(usize, usize)>
-    requires left { Whole pattern.now × (i < length pattern.now) }
-    requires right { Whole target.now × (j < length target.now) }
-    requires below { Below (length bound.old) pattern.now }
-    requires placed { Placed target.now bound.old }
-    ensures { Matched pattern.now i target.now j bound.old result bound.new }
+    requires below { Below (length bound.old) pattern.nodes.now }
+    requires placed { Placed target.nodes.now bound.old }
+    ensures { Matched pattern.entry.nodes.now pattern.entry.start target.entry.nodes.now target.entry.start bound.old result bound.new }
 {
-    let node = pattern[i];
+    let node = pattern.nodes[pattern.start];
     if let Node::Variable(x) = node {
-        if !bind(target, j, bound, x) {
+        if !bind(target, bound, x) {
             return None;
         }
-        return Some((i + 1, next_word(target, j)));
+        return Some((pattern.start + 1, target.end()));
     }
-    if !fellows(node, target[j]) {
+    if !fellows(node, target.nodes[target.start]) {
         return None;
     }
-    let count = places(node);
-    let mut p = i + 1;
-    let mut q = j + 1;
-    for n in 0..count {
-        let Some((next_p, next_q)) = match_word(pattern, p, target, q, bound) else {
-            return None;
-        };
-        p = next_p;
-        q = next_q;
+    let mut p = pattern.start + 1;
+    let mut q = target.start + 1;
+    for _ in 0..places(node) {
+        (p, q) = match_word(pattern.at(p), target.at(q), bound)?;
     }
     Some((p, q))
 }

@@ -1,8 +1,53 @@
-// Walks over nodes in preorder.
+// Words that stand among nodes in preorder: where they end, and whether two are the same.
 ghost use Rattle.std.specs.Prelude.{◌≡◌, ◌<◌, length, Decides};
 ghost use Rattle.term.specs.Coding.{places_of, Whole, word_at, Next};
+ghost use Rattle.term.specs.Standing.{Whole-prop};
 
 use super::Node;
+
+// A word that stands among nodes in preorder: the nodes, and where among them it begins.
+#[derive(Clone, Copy)]
+pub struct WordAt<'a> {
+    pub nodes: &'a [Node],
+    pub start: usize,
+    pub ghost whole: { Whole nodes.now } by { Whole-prop nodes.now },
+    pub ghost inside: { start < length nodes.now },
+}
+
+impl<'a> WordAt<'a> {
+    // The word at another place among the same nodes.
+    pub fn at(self, start: usize) -> WordAt<'a>
+        requires { start < length self.nodes.now }
+        ensures nodes { result.nodes.now ≡ self.entry.nodes.now }
+        ensures start { result.start ≡ start }
+    {
+        WordAt {
+            nodes: self.nodes,
+            start,
+        }
+    }
+
+    // Where the word ends.
+    pub fn end(self) -> usize
+        ensures { Next self.entry.nodes.now self.entry.start result }
+    {
+        let mut need: usize = 1;
+        for (passed, node) in self.nodes[self.start..].iter().enumerate() {
+            if need == 0 {
+                return self.start + passed;
+            }
+            need = need - 1 + places(*node);
+        }
+        self.nodes.len()
+    }
+
+    // Whether two words are the same.
+    pub fn is_same(self, other: WordAt<'_>) -> bool
+        ensures { Decides result (word_at self.entry.nodes.now self.entry.start ≡ word_at other.entry.nodes.now other.entry.start) }
+    {
+        self.nodes[self.start..self.end()] == other.nodes[other.start..other.end()]
+    }
+}
 
 // How many places a node has.
 pub fn places(node: Node) -> usize
@@ -13,30 +58,4 @@ pub fn places(node: Node) -> usize
         Node::Variable(_) => 0,
         Node::Applied(_, k) => k as usize,
     }
-}
-
-// Where the word at `i` ends.
-pub fn next_word(nodes: &[Node], i: usize) -> usize
-    requires whole { Whole nodes.now }
-    requires inside { i < length nodes.now }
-    ensures { Next nodes.now i result }
-{
-    let mut at = i;
-    let mut need: usize = 1;
-    while need > 0 {
-        need = need - 1 + places(nodes[at]);
-        at += 1;
-    }
-    at
-}
-
-// Whether the words at two places are the same.
-pub fn same_word(a: &[Node], i: usize, b: &[Node], j: usize) -> bool
-    requires left { Whole a.now × (i < length a.now) }
-    requires right { Whole b.now × (j < length b.now) }
-    ensures { Decides result (word_at a.now i ≡ word_at b.now j) }
-{
-    let p = next_word(a, i);
-    let q = next_word(b, j);
-    a[i..p] == b[j..q]
 }

@@ -1,5 +1,6 @@
 // What can be done with place words.
 ghost use Rattle.std.specs.Prelude.{◌≡◌, [], Ok};
+ghost use Rattle.bounded.specs.Elems.{elems};
 ghost use Rattle.class.specs.Kinds.{Joined};
 ghost use Rattle.term.specs.Coding.{code};
 ghost use Rattle.term.specs.Joins.{join};
@@ -11,7 +12,7 @@ ghost use Rattle.place.specs.Held.{within};
 use super::PlaceWord;
 use bounded::Bounded;
 use class::{Kind, Refusal};
-use term::{Node, Pair, join_word, match_word};
+use term::{Node, Pair, WordAt, join_word, match_word};
 
 impl PlaceWord {
     // The word that is one variable.
@@ -29,6 +30,17 @@ impl PlaceWord {
     {
         self.nodes.as_slice()
     }
+
+    // The word, as it stands among them.
+    fn word(&self) -> WordAt<'_>
+        ensures nodes { result.nodes.now ≡ elems self.now.nodes }
+        ensures start { result.start ≡ 0 }
+    {
+        WordAt {
+            nodes: self.nodes.as_slice(),
+            start: 0,
+        }
+    }
 }
 
 impl Kind for PlaceWord {
@@ -37,10 +49,8 @@ impl Kind for PlaceWord {
     ghost lawful = { record { itself = covers-itself; through = covers-through; inside = within } };
 
     fn covers(&self, other: &PlaceWord) -> bool {
-        let pattern = self.nodes.as_slice();
-        let target = other.nodes.as_slice();
         let mut bound: [Option<usize>; 64] = [None; 64];
-        match_word(pattern, 0, target, 0, &mut bound).is_some()
+        match_word(self.word(), other.word(), &mut bound).is_some()
     }
 
     // Every place word is tidy.
@@ -51,11 +61,9 @@ impl Kind for PlaceWord {
         ensures passes { result ≡ Ok tt }
         ensures value { meaning self.new ≡ (join (meaning self.old) (meaning other.now) []).0 }
     {
-        let left = self.nodes.as_slice();
-        let right = other.nodes.as_slice();
         let mut nodes: Bounded<Node, 64> = Bounded::new(Node::Variable(0));
         let mut pairs: Bounded<Pair, 64> = Bounded::new(Pair { left: 0, right: 0 });
-        let _ = join_word(left, 0, right, 0, &mut nodes, &mut pairs);
+        let _ = join_word(self.word(), other.word(), &mut nodes, &mut pairs);
         self.nodes = nodes;
         Ok(())
     }

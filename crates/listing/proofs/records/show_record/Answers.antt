@@ -10,14 +10,14 @@ use Rattle.listing.specs.Shown.{separated, shown, each, shown_clause}
 use Rattle.listing.proofs.Separated.{one_more, none_left, separated-words}
 use Rattle.listing.proofs.records.show_record.Goals as goal
 
-pub show_word-requires : goal.show_word-requires
-show_word-requires c =
+pub invariant_of-show_word : goal.invariant_of-show_word
+invariant_of-show_word c =
     let ls = literals c.args.clause.now in
     let nodes = c.nodes-nodes.result.now in
     let starts = c.starts-starts.result.now in
     let same = c.nodes-nodes.ensures.value in
     let inside = subst (Inside (length nodes)) (sym c.starts-starts.ensures) (inside-begins 0 (length nodes) ls (omega (arith, ap length same, length-codes ls))) in
-    (subst Whole (sym same) (whole-all ls), inside-at (length nodes) starts c.loop-k.k inside c.loop-k-test.true)
+    record { whole = subst Whole (sym same) (whole-all ls); inside = inside-at (length nodes) starts c.loop-k.k inside c.loop-k-test.true }
 
 pub loop-k-preserved : goal.loop-k-preserved
 loop-k-preserved c =

@@ -6,11 +6,11 @@ use Rattle.place.specs.Held.{held}
 use Rattle.listing.specs.Shown.{shown}
 use Rattle.listing.proofs.words.show_place.Goals as goal
 
-pub show_word-requires : goal.show_word-requires
-show_word-requires c =
+pub invariant_of-word : goal.invariant_of-word
+invariant_of-word c =
     let p = c.args.place.now in
     let e = c.nodes.ensures ∙ (held p).nodes-of in
-    (subst Whole (sym e) (held p).whole, omega (arith, ap length e, (held p).some))
+    record { whole = subst Whole (sym e) (held p).whole; inside = omega (arith, ap length e, (held p).some) }
 
 pub returns : goal.returns
 returns c =

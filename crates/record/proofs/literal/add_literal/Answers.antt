@@ -19,6 +19,16 @@ returns-in_err-next c =
     (literal-refused (elems c.args.nodes.now) c.requires.whole c.args.input.now c.args.at (λ i. (c.type_inv.input i).fits) c.len-start.result c.len-start.ensures.value c.read_head.result c.read_head.ensures
     c.in_ok-head.head c.in_ok-head.was c.push.result (elems c.push.new.self) c.push.ensures c.args.seen c.requires.counted (elems c.read_words.new.nodes) c.in_err-next.field-0.0 c.in_err-next.ensures.value)
 
+pub invariant_of-word : goal.invariant_of-word
+invariant_of-word c =
+    let old = elems c.args.nodes.now in
+    let after = elems c.read_words.new.nodes in
+    let f = literal-finished old c.requires.whole c.args.input.now c.args.at (λ i. (c.type_inv.input i).fits) c.len-start.result c.len-start.ensures.value c.read_head.result c.read_head.ensures
+    c.in_ok-head.head c.in_ok-head.was c.push.result (elems c.push.new.self) c.push.ensures c.args.seen c.requires.counted after c.in_ok-next.next c.in_ok-next.seen c.in_ok-next.ensures.value in
+    let nodes = c.as_slice.ensures.value ∙ f.nodes in
+    let whole = grown-whole old c.requires.whole f.literal c.as_slice.result.now nodes c.args.starts.now c.requires.begun c.len-start.result c.len-start.ensures.value in
+    record { whole = whole.0; inside = whole.1 }
+
 pub stands_among-requires : goal.stands_among-requires
 stands_among-requires c =
     let old = elems c.args.nodes.now in
@@ -26,10 +36,7 @@ stands_among-requires c =
     let f = literal-finished old c.requires.whole c.args.input.now c.args.at (λ i. (c.type_inv.input i).fits) c.len-start.result c.len-start.ensures.value c.read_head.result c.read_head.ensures
     c.in_ok-head.head c.in_ok-head.was c.push.result (elems c.push.new.self) c.push.ensures c.args.seen c.requires.counted after c.in_ok-next.next c.in_ok-next.seen c.in_ok-next.ensures.value in
     let nodes = c.as_slice.ensures.value ∙ f.nodes in
-    record {
-      whole = grown-whole old c.requires.whole f.literal c.as_slice.result.now nodes c.args.starts.now c.requires.begun c.len-start.result c.len-start.ensures.value;
-      inside = grown-inside old c.requires.whole f.literal c.as_slice.result.now nodes c.args.starts.now c.requires.begun c.len-start.result c.len-start.ensures.value;
-    }
+    grown-inside old c.requires.whole f.literal c.as_slice.result.now nodes c.args.starts.now c.requires.begun c.len-start.result c.len-start.ensures.value
 
 pub returns-then-stands_among : goal.returns-then-stands_among
 returns-then-stands_among c =

@@ -7,37 +7,33 @@ use Rattle.record.specs.Reads.{words_from, Inside}
 use Rattle.record.proofs.Places.{stands-none, stands-first, stands-later}
 use Rattle.record.proofs.literal.stands_among.Goals as goal
 
-pub same_word-requires : goal.same_word-requires
-same_word-requires c =
-    let starts = c.args.starts.now in
-    let k = c.loop-start.start-index in
-    let here = subst (Inside (length c.args.nodes.now)) (drop_more starts k 0 (omega arith)) c.loop-start.invariant.1 in
-    record { left = c.requires.whole; right = (c.requires.whole.0, here.0) }
+pub at-requires : goal.at-requires
+at-requires c = (subst (Inside (length c.args.word.nodes.now)) (drop_more c.args.starts.now c.loop-start.start-index 0 (omega arith)) c.loop-start.invariant.1).0
 
-pub returns-then-same_word : goal.returns-then-same_word
-returns-then-same_word c =
-    let nodes = c.args.nodes.now in
+pub returns-then-is_same : goal.returns-then-is_same
+returns-then-is_same c =
+    let nodes = c.args.word.nodes.now in
     let starts = c.args.starts.now in
     let k = c.loop-start.start-index in
-    let w = word_at nodes c.args.i in
+    let w = word_at nodes c.args.word.start in
     let more = drop_more starts k 0 (omega arith) in
-    sym (ap (λ (l : List ℕ). stands w (words_from nodes l)) more ∙ stands-first w (word_at nodes (get_or starts k 0)) (words_from nodes (drop (k + 1) starts)) (c.same_word.ensures.0 c.if-same_word.true))
+    sym (ap (λ (l : List ℕ). stands w (words_from nodes l)) more ∙ stands-first w (word_at nodes (get_or starts k 0)) (words_from nodes (drop (k + 1) starts)) ((rw (c.at.ensures.nodes, c.at.ensures.start) at c.is_same.ensures).0 c.if-is_same.true))
     ∙ c.loop-start.invariant.0
 
 pub loop-start-preserved : goal.loop-start-preserved
 loop-start-preserved c =
-    let nodes = c.args.nodes.now in
+    let nodes = c.args.word.nodes.now in
     let starts = c.args.starts.now in
     let k = c.loop-start.start-index in
-    let w = word_at nodes c.args.i in
+    let w = word_at nodes c.args.word.start in
     let more = drop_more starts k 0 (omega arith) in
     let rest = words_from nodes (drop (k + 1) starts) in
-    let on = stands-later w (word_at nodes (get_or starts k 0)) rest (λ e. both_ways _ c.if-same_word.false (c.same_word.ensures.1 e)) in
+    let on = stands-later w (word_at nodes (get_or starts k 0)) rest (λ e. both_ways _ c.if-is_same.false ((rw (c.at.ensures.nodes, c.at.ensures.start) at c.is_same.ensures).1 e)) in
     (sym on ∙ sym (ap (λ (l : List ℕ). stands w (words_from nodes l)) more) ∙ c.loop-start.invariant.0, (subst (Inside (length nodes)) more c.loop-start.invariant.1).1)
 
 pub returns : goal.returns
 returns c =
-    let nodes = c.args.nodes.now in
+    let nodes = c.args.word.nodes.now in
     let starts = c.args.starts.now in
-    let w = word_at nodes c.args.i in
+    let w = word_at nodes c.args.word.start in
     sym (ap (λ (l : List ℕ). stands w (words_from nodes l)) (drop_all c.loop-start.start-index starts (omega arith)) ∙ stands-none w) ∙ c.loop-start.invariant.0

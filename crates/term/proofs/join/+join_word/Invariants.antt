@@ -6,16 +6,16 @@ use Rattle.term.proofs.join.+join_word.Given as goal
 
 -- the nodes left fall
 abbrev pub decreases-join_word : goal.decreases-join_word
-decreases-join_word g l = length l.a.now - l.i
+decreases-join_word g l = length l.a.nodes.now - l.a.start
 
 -- how far the join has come, and what joining the next two words requires
-abbrev pub invariant-loop-n : goal.invariant-loop-n
-invariant-loop-n g l = record {
-  going : Going l.a l.b l.count (l.count - l.n) l.p l.q (elems l.out) (elems l.pairs) l.initial.p l.initial.q (elems l.initial.out) (elems l.initial.pairs);
-  later : l.i < l.p;
-  left : l.n < l.count → l.p < length l.a;
-  right : l.n < l.count → l.q < length l.b;
-  known : Inside l.a l.b (elems l.pairs);
-  room : length (elems l.out) + (length l.a - l.p) ≤ g.row.N;
-  spare : length (elems l.pairs) + (length l.a - l.p) ≤ g.row.N;
+abbrev pub invariant-loop : goal.invariant-loop
+invariant-loop g l = record {
+  going : Going l.a.nodes.now l.b.nodes.now l.end (l.end - l.counter) l.p l.q (elems l.out) (elems l.pairs) l.initial.p l.initial.q (elems l.initial.out) (elems l.initial.pairs);
+  later : l.a.start < l.p;
+  left : l.counter < l.end → l.p < length l.a.nodes.now;
+  right : l.counter < l.end → l.q < length l.b.nodes.now;
+  known : Inside l.a.nodes.now l.b.nodes.now (elems l.pairs);
+  room : length (elems l.out) + (length l.a.nodes.now - l.p) ≤ g.row.N;
+  spare : length (elems l.pairs) + (length l.a.nodes.now - l.p) ≤ g.row.N;
 }

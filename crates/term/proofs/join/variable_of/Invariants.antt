@@ -5,4 +5,5 @@ use Rattle.term.proofs.join.variable_of.Given as goal
 
 -- none of the pairs so far is the one that is looked for
 abbrev pub invariant-loop-k : goal.invariant-loop-k
-invariant-loop-k g l = (m : ℕ) → m < l.k → ¬ Of l.a l.b (word_at l.a l.i) (word_at l.b l.j) (get_or l.all m none)
+invariant-loop-k g l =
+    (m : ℕ) → m < l.k → ¬ Of l.a.nodes.now l.b.nodes.now (word_at l.a.nodes.now l.a.start) (word_at l.b.nodes.now l.b.start) (get_or l.pair-items m none)
