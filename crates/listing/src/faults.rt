@@ -2,8 +2,8 @@
 ghost use Rattle.std.specs.Prelude.{◌≡◌, ℕ, List, Some, Option, IfOk, string_bytes};
 ghost use Rattle.word.specs.declared.fault.Layer.{Layer as AnyLayer};
 ghost use Rattle.listing.specs.FaultLines.{layer_names, literal_part, layered_line};
-ghost use Rattle.listing.specs.Shown.{separator};
 
+use super::words::divider;
 use std::alloc::{AllocError, Global};
 use std::fmt::Display;
 use word::Layer;
@@ -58,15 +58,8 @@ fn layer_names(heap: Global, layers: &[Layer]) -> Result<String, AllocError>
 {
     let mut text = String::new(heap);
     for (k, layer) in layers.iter().enumerate() {
-        text.push_str(separator(k))?;
+        text.push_str(divider("", k))?;
         write!(text, "{layer}")?;
     }
     Ok(text)
-}
-
-// What stands before the text in place `n` of several.
-pub(super) fn separator(n: usize) -> &'static str
-    ensures { result.now ≡ separator n }
-{
-    if n == 0 { "" } else { ", " }
 }

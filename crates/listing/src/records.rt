@@ -7,8 +7,8 @@ ghost use Rattle.listing.specs.RecordLines.{record_listed};
 ghost use Rattle.listing.specs.Shown.{shown_clause};
 
 use super::Listing;
-use super::faults::{Layered, Origin, separator};
-use super::words::show_word;
+use super::faults::{Layered, Origin};
+use super::words::{divider, show_word};
 use record::{Record, RecordFault};
 use std::alloc::{AllocError, Global};
 use term::WordAt;
@@ -33,8 +33,8 @@ pub fn show_record(heap: Global, clause: &Record) -> Result<String, AllocError>
     let mut text = String::new(heap);
     text.push_str("{")?;
     for (k, &start) in starts.iter().enumerate() {
-        text.push_str(separator(k))?;
-        show_word(heap, &mut text, WordAt { nodes, start })?;
+        text.push_str(divider("", k))?;
+        show_word(&mut text, WordAt { nodes, start })?;
     }
     text.push_str("}")?;
     Ok(text)

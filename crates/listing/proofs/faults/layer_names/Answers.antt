@@ -9,7 +9,7 @@ use Rattle.listing.proofs.faults.layer_names.Goals as goal
 pub loop-k-preserved : goal.loop-k-preserved
 loop-k-preserved c =
     let old = string_bytes c.loop-k.text in
-    let first = pushed c.separator.result.now refl c.in_ok-push_str.was c.push_str.ensures.bytes ∙ ap (λ (t : List ℕ). old ++ t) c.separator.ensures in
+    let first = pushed c.divider.result.now refl c.in_ok-push_str.was c.push_str.ensures.bytes ∙ ap (λ (t : List ℕ). old ++ t) c.divider.ensures in
     one_more layer_name c.args.layers.now (layer_names c.args.layers.now) c.loop-k.k layer.Number old (string_bytes c.push_str.new.self) (string_bytes c.write.new.self) c.loop-k-test.true c.loop-k.invariant first c.in_ok-write.ensures.bytes
 
 pub returns : goal.returns
