@@ -8,7 +8,7 @@ use Rattle.word.specs.declared.fault.WordFault.{WordFault}
 use Rattle.word.specs.declared.fault.WordFault.TheVariants.{Number}
 use Rattle.word.specs.Faults as words
 use Rattle.word.specs.Reads.{node_at, read_words}
-use Rattle.word.specs.Then.{then, and_then}
+use Rattle.word.specs.Then.{then}
 use Rattle.term.specs.declared.node.Node.{Node}
 use Rattle.place.specs.declared.fault.PlaceFault.{PlaceFault}
 use Rattle.place.specs.declared.fault.PlaceFault.TheVariants.{Word}
@@ -79,7 +79,7 @@ module _ (input : List ℕ) where
   WordsBy (Ok p) = p.1 ≤ length input
   WordsBy (Err fault) = (words.told fault).1 ≤ length input
 
-  words-then : {R : Type 0} {next : R → ℕ} (s : Result R WordFault) (on : R → Result (List Node × ℕ × ℕ) WordFault) → NodeBy s next → ((r : R) → next r ≤ length input → WordsBy (on r)) → WordsBy (and_then s on)
+  words-then : {R : Type 0} {next : R → ℕ} (s : Result R WordFault) (on : R → Result (List Node × ℕ × ℕ) WordFault) → NodeBy s next → ((r : R) → next r ≤ length input → WordsBy (on r)) → WordsBy (then (λ e. e) s on)
   words-then (Ok r) on h k = k r h.ends
   words-then (Err e) on h k = h.ends
 

@@ -1,4 +1,3 @@
-pub mod Reaches
 pub mod Bounds
 pub mod Takes
 pub mod Turns

@@ -1,37 +1,43 @@
 // Reads packed bytes from standard input and lists what they hold: numbers, or one place word.
 #![tactic(auto)]
 
-use anyhow::anyhow;
+use anyhow::bail;
+use listing::Listing;
 use std::env;
 use std::io::Read;
 
-fn main(rt: HostRuntime) -> anyhow::Result<()> {
-    run(&rt)
+// What the bytes are the packed form of.
+#[derive(Clone, Copy)]
+enum Form {
+    Numbers,
+    Place,
 }
 
-fn run(rt: &HostRuntime) -> anyhow::Result<()> {
-    let mut args = env::args(rt)?.skip(1);
-    let place = match args.next() {
-        None => false,
-        Some(word) => {
-            if word.as_str() != "place" || args.next().is_some() {
-                return Err(anyhow!("usage: inspect [place] < FILE"));
-            }
-            true
-        }
-    };
+fn main(rt: HostRuntime) -> anyhow::Result<()> {
+    let form = form_asked_for(&rt)?;
     let mut input = Vec::new(rt.alloc());
     rt.stdin().read_to_end(&mut input)?;
-    let (text, faulty) = if place {
-        let listing = listing::list_place(rt.alloc(), input.as_slice())?;
-        (listing.text, listing.fault.is_some())
-    } else {
-        let listing = listing::list_numbers(rt.alloc(), input.as_slice())?;
-        (listing.text, listing.fault.is_some())
-    };
-    rt.print(text.as_str())?;
-    if faulty {
-        return Err(anyhow!("the input has a fault"));
+    match form {
+        Form::Numbers => print(&rt, listing::list_numbers(rt.alloc(), &input)?),
+        Form::Place => print(&rt, listing::list_place(rt.alloc(), &input)?),
     }
-    Ok(())
+}
+
+// The form that the arguments ask for.
+fn form_asked_for(rt: &HostRuntime) -> anyhow::Result<Form> {
+    let mut args = env::args(rt)?.skip(1);
+    match args.next() {
+        None => Ok(Form::Numbers),
+        Some(word) if word.as_str() == "place" && args.next().is_none() => Ok(Form::Place),
+        Some(_) => bail!("usage: inspect [place] < FILE"),
+    }
+}
+
+// Prints a listing; a fault that ended it is an error.
+fn print<F: Drop>(rt: &HostRuntime, listing: Listing<F>) -> anyhow::Result<()> {
+    rt.print(listing.text.as_str())?;
+    match listing.fault {
+        None => Ok(()),
+        Some(_) => bail!("the input has a fault"),
+    }
 }

@@ -2,3 +2,4 @@ pub mod Turns
 pub mod Truths
 pub mod Showing
 pub mod Separated
+pub mod Made

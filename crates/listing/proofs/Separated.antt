@@ -1,11 +1,9 @@
 -- Texts with a comma between two, one after the other.
-use Rattle.std.proofs.Common.{◌≡◌, ℕ, suc, ◌+◌, ◌<◌, ◌≤◌, List, [], ◌∷◌, ◌++◌, length, get_or, drop, sym, refl, ap, ◌∙◌, append_assoc, append-nil, add-one, codes}
+use Rattle.std.proofs.Common.{◌≡◌, ℕ, suc, ◌+◌, ◌<◌, ◌≤◌, List, [], ◌∷◌, ◌++◌, length, get_or, drop, sym, refl, ap, ◌∙◌, append_assoc, append-nil, add-one}
 use Rattle.std.proofs.lemmas.List.{drop_more, drop_all}
 use Rattle.term.specs.declared.node.Node.{Node}
 use Rattle.term.specs.Coding.{word_at}
 use Rattle.record.specs.Reads.{words_from}
-use Rattle.word.specs.declared.fault.Layer.{Layer}
-use Rattle.listing.specs.PlaceLines.{layer_name, layer_names}
 use Rattle.listing.specs.Shown.{separator, separated, shown, each}
 
 module _ {X : Type 0} (show : X → List ℕ) (xs : List X) (goal : List ℕ) where
@@ -32,15 +30,3 @@ pub separated-words : (nodes : List Node) (n : ℕ) (starts : List ℕ) → sepa
 unfolding separated
 separated-words nodes n [] = refl
 separated-words nodes n (i ∷ is) = ap (λ (t : List ℕ). separator n ++ (shown (word_at nodes i) ++ t)) (separated-words nodes (suc n) is)
-
--- the layers of a fault, with a comma between two
-separated-later : (n : ℕ) (l : Layer) (ls : List Layer) → separated layer_name (suc n) (l ∷ ls) ≡ codes ", " ++ layer_names (l ∷ ls)
-unfolding separated
-separated-later n l [] = ap (λ (t : List ℕ). codes ", " ++ t) (append-nil (layer_name l))
-separated-later n l (m ∷ ls) = ap (λ (t : List ℕ). codes ", " ++ (layer_name l ++ t)) (separated-later (suc n) m ls)
-
-pub separated-layers : (ls : List Layer) → separated layer_name 0 ls ≡ layer_names ls
-unfolding separated
-separated-layers [] = refl
-separated-layers (l ∷ []) = append-nil (layer_name l)
-separated-layers (l ∷ (m ∷ ls)) = ap (λ (t : List ℕ). layer_name l ++ t) (separated-later 0 m ls)

@@ -1,6 +1,6 @@
 pub mod Lines
 pub mod Listed
-pub mod PlaceLines
-pub mod FaultLines
-pub mod RecordLines
 pub mod Shown
+pub mod FaultLines
+pub mod PlaceLines
+pub mod RecordLines

@@ -1,8 +1,7 @@
 -- The lines of a listing.
 use Rattle.std.specs.Prelude.{ℕ, List, ◌++◌, codes, decimal}
-use Rattle.number.specs.Faults.{told}
+use Rattle.number.specs.Faults.{told, sentence}
 use Rattle.number.specs.declared.fault.NumberFault.{NumberFault}
-use Rattle.number.specs.declared.fault.NumberFault.TheVariants.{Missing, TooLarge, Padded}
 
 -- a line before the text of what is told
 abbrev pub after : {X : Type 0} → List ℕ → List ℕ × X → List ℕ × X
@@ -15,12 +14,6 @@ number_line at value = codes "at " ++ (decimal at ++ (codes ": " ++ (decimal val
 -- how many numbers were read
 unfoldable pub count_line : ℕ → List ℕ
 count_line count = codes "numbers read: " ++ (decimal count ++ codes "\n")
-
--- what is wrong, in words
-abbrev pub sentence : NumberFault → List ℕ
-sentence (Missing _) = codes "the input ends within a number"
-sentence (TooLarge _) = codes "the third byte of a number is not below 4"
-sentence (Padded _) = codes "the last byte of a number of several bytes is 0"
 
 -- a fault, by its question and its byte
 unfoldable pub fault_line : NumberFault → List ℕ

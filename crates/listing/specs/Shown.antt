@@ -17,10 +17,14 @@ abbrev pub node_name : Node → List ℕ
 node_name (Variable x) = codes "X" ++ decimal x
 node_name (Applied s k) = symbol_name s k
 
+-- what stands before the text in place n of several: this before the first, a comma before the others
+abbrev pub divider : (first : List ℕ) → (n : ℕ) → List ℕ
+divider first zero = first
+divider first (suc n) = codes ", "
+
 -- what stands before the word in place n, and after the words in n places
 abbrev pub opening : ℕ → List ℕ
-opening zero = codes "("
-opening (suc n) = codes ", "
+opening n = divider (codes "(") n
 
 abbrev pub closing : ℕ → List ℕ
 closing zero = []
@@ -38,8 +42,7 @@ unfoldable mutual
 
 -- what stands before the text in place n of several, and all of them from place n on
 abbrev pub separator : ℕ → List ℕ
-separator zero = []
-separator (suc n) = codes ", "
+separator n = divider [] n
 
 unfoldable pub separated : {X : Type 0} → (X → List ℕ) → (n : ℕ) → List X → List ℕ
 separated text n [] = []

@@ -1,27 +1,45 @@
 // The line of a fault that has layers.
-ghost use Rattle.std.specs.Prelude.{◌≡◌, IfOk, string_bytes};
-ghost use Rattle.listing.specs.FaultLines.{literal_part, word_sentence, layered_line};
-ghost use Rattle.listing.specs.PlaceLines.{layer_name, layer_names};
-ghost use Rattle.listing.specs.Shown.{separator};
+ghost use Rattle.std.specs.Prelude.{◌≡◌, ℕ, List, Some, Option, IfOk, string_bytes};
+ghost use Rattle.word.specs.declared.fault.Layer.{Layer as AnyLayer};
+ghost use Rattle.listing.specs.FaultLines.{layer_names, literal_part, layered_line};
 
-use super::numbers::sentence;
+use super::words::divider;
 use std::alloc::{AllocError, Global};
-use word::{Layer, WordFault};
+use std::fmt::Display;
+use word::Layer;
+
+// Where a fault arose: its question, its byte, the literal in hand, and what was being read.
+#[derive(Clone, Copy)]
+pub(super) struct Origin {
+    pub question: u8,
+    pub byte: usize,
+    pub literal: Option<usize>,
+    pub layers: &'static [Layer],
+}
+
+// A fault that has layers, and says what is wrong.
+pub(super) trait Layered: Display + Drop {
+    ghost tells: { Self → ℕ × ℕ × Option ℕ × List AnyLayer };
+
+    ghost says: { Self → List ℕ };
+
+    fn origin(&self) -> Origin
+        ensures { (result.question, result.byte, result.literal, result.layers.now) ≡ tells self.now };
+
+    ghost shows: { (fault : Self) → Self.output fault ≡ Some (says fault) };
+}
 
 // The line of a fault: its question, its byte, the literal in hand, its layers, and what is wrong.
-pub(super) fn layered_line(
-    heap: Global,
-    question: u8,
-    byte: usize,
-    literal: Option<usize>,
-    layers: &[Layer],
-    why: &str,
-) -> Result<String, AllocError>
-    ensures { IfOk result (λ s. string_bytes s ≡ layered_line question byte literal layers.now why.now) }
+#[tactic(auto, unfolding(crate::specs::FaultLines::layered_line))]
+pub(super) fn layered_line<F: Layered>(heap: Global, fault: &F) -> Result<String, AllocError>
+    ensures { IfOk result (λ s. string_bytes s ≡ layered_line (F.tells fault.now) (F.says fault.now)) }
 {
-    let part = literal_part(heap, literal)?;
-    let names = layer_names(heap, layers)?;
-    format!(in heap; "fault {question} at byte {byte}{part} in {names}: {why}\n")
+    let origin = fault.origin();
+    let question = origin.question;
+    let byte = origin.byte;
+    let part = literal_part(heap, origin.literal)?;
+    let names = layer_names(heap, origin.layers)?;
+    format!(in heap; "fault {question} at byte {byte}{part} in {names}: {fault}\n")
 }
 
 // The literal in hand, if there is one.
@@ -39,41 +57,9 @@ fn layer_names(heap: Global, layers: &[Layer]) -> Result<String, AllocError>
     ensures { IfOk result (λ s. string_bytes s ≡ layer_names layers.now) }
 {
     let mut text = String::new(heap);
-    for k in 0..layers.len() {
-        text.push_str(separator(k))?;
-        text.push_str(layer_name(layers[k]))?;
+    for (k, layer) in layers.iter().enumerate() {
+        text.push_str(divider("", k))?;
+        write!(text, "{layer}")?;
     }
     Ok(text)
-}
-
-// What stands before the text in place `n` of several.
-pub(super) fn separator(n: usize) -> &'static str
-    ensures { result.now ≡ separator n }
-{
-    if n == 0 { "" } else { ", " }
-}
-
-fn layer_name(layer: Layer) -> &'static str
-    ensures { result.now ≡ layer_name layer }
-{
-    match layer {
-        Layer::Number => "number",
-        Layer::Word => "word",
-        Layer::PlaceWord => "place word",
-        Layer::Literal => "literal",
-        Layer::Record => "record",
-    }
-}
-
-// What is wrong with a word, in words.
-pub(super) fn word_sentence(fault: &WordFault) -> &'static str
-    ensures { result.now ≡ word_sentence fault.now }
-{
-    match fault {
-        WordFault::Number(number) => sentence(number),
-        WordFault::Places { first: _ } => "a symbol has more than 8 places",
-        WordFault::Nodes { first: _ } =>
-            "there are more nodes than the limit (64 in a place word, 256 in a record)",
-        WordFault::Order { first: _ } => "a variable is not the next unused one",
-    }
 }

@@ -1,6 +1,6 @@
 // The listing of packed numbers: a line for each, then the count of them or the fault.
 ghost use Rattle.std.specs.Prelude.{◌≡◌, IfOk, string_bytes};
-ghost use Rattle.listing.specs.Lines.{number_line, count_line, fault_line, sentence};
+ghost use Rattle.listing.specs.Lines.{number_line, count_line, fault_line};
 ghost use Rattle.listing.specs.Listed.{listed, Faithful};
 
 use super::Listing;
@@ -15,15 +15,16 @@ pub fn list_numbers(heap: Global, input: &[u8]) -> Result<Listing<NumberFault>, 
     let mut text = String::new(heap);
     let mut at = 0;
     let mut count: usize = 0;
+    // no iterator: where the next number begins is known only once this one is read
     while at < input.len() {
         match number::read(input, at) {
             Ok((value, next)) => {
-                text.push_str(number_line(heap, at, value)?.as_str())?;
+                text.push_str(&number_line(heap, at, value)?)?;
                 at = next;
                 count += 1;
             }
             Err(fault) => {
-                text.push_str(fault_line(heap, &fault)?.as_str())?;
+                text.push_str(&fault_line(heap, &fault)?)?;
                 return Ok(Listing {
                     text,
                     fault: Some(fault),
@@ -31,11 +32,12 @@ pub fn list_numbers(heap: Global, input: &[u8]) -> Result<Listing<NumberFault>, 
             }
         }
     }
-    text.push_str(count_line(heap, count)?.as_str())?;
+    text.push_str(&count_line(heap, count)?)?;
     Ok(Listing { text, fault: None })
 }
 
 // The line of a number: its place and its value.
+#[tactic(auto, unfolding(crate::specs::Lines::number_line))]
 fn number_line(heap: Global, at: usize, value: u16) -> Result<String, AllocError>
     ensures { IfOk result (λ s. string_bytes s ≡ number_line at value) }
 {
@@ -43,6 +45,7 @@ fn number_line(heap: Global, at: usize, value: u16) -> Result<String, AllocError
 }
 
 // The last line, where all was read.
+#[tactic(auto, unfolding(crate::specs::Lines::count_line))]
 fn count_line(heap: Global, count: usize) -> Result<String, AllocError>
     ensures { IfOk result (λ s. string_bytes s ≡ count_line count) }
 {
@@ -50,22 +53,11 @@ fn count_line(heap: Global, count: usize) -> Result<String, AllocError>
 }
 
 // The last line, where a fault was met.
+#[tactic(auto, unfolding(crate::specs::Lines::fault_line))]
 fn fault_line(heap: Global, fault: &NumberFault) -> Result<String, AllocError>
     ensures { IfOk result (λ s. string_bytes s ≡ fault_line fault.now) }
 {
     let question = fault.question();
     let byte = fault.byte();
-    let why = sentence(fault);
-    format!(in heap; "fault {question} at byte {byte}: {why}\n")
-}
-
-// What is wrong, in words.
-pub(super) fn sentence(fault: &NumberFault) -> &'static str
-    ensures { result.now ≡ sentence fault.now }
-{
-    match fault {
-        NumberFault::Missing { end: _ } => "the input ends within a number",
-        NumberFault::TooLarge { first: _ } => "the third byte of a number is not below 4",
-        NumberFault::Padded { first: _ } => "the last byte of a number of several bytes is 0",
-    }
+    format!(in heap; "fault {question} at byte {byte}: {fault}\n")
 }

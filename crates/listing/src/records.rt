@@ -1,15 +1,15 @@
 // Records in legible form, as {p1(X0), -q2(a3)}, and the listing of one.
-ghost use Rattle.std.specs.Prelude.{◌≡◌, IfOk, string_bytes};
+ghost use Rattle.std.specs.Prelude.{◌≡◌, refl, IfOk, string_bytes};
+ghost use Rattle.record.specs.Faults.{told, sentence};
 ghost use Rattle.record.specs.Reads.{read_record};
 ghost use Rattle.record.specs.Records.{literals};
-ghost use Rattle.listing.specs.RecordLines.{literal_sentence, record_sentence, record_fault_line, record_listed};
+ghost use Rattle.listing.specs.RecordLines.{record_listed};
 ghost use Rattle.listing.specs.Shown.{shown_clause};
 
 use super::Listing;
-use super::faults::{layered_line, separator, word_sentence};
-use super::numbers::sentence;
-use super::words::show_word;
-use record::{LiteralFault, Record, RecordFault};
+use super::faults::{Layered, Origin};
+use super::words::{divider, show_word};
+use record::{Record, RecordFault};
 use std::alloc::{AllocError, Global};
 use term::WordAt;
 
@@ -19,18 +19,8 @@ pub fn list_record(heap: Global, input: &[u8]) -> Result<Listing<RecordFault>, A
 {
     let mut record = Record::new();
     match record.read(input) {
-        Ok(()) => {
-            let mut text = show_record(heap, &record)?;
-            text.push_str("\n")?;
-            Ok(Listing { text, fault: None })
-        }
-        Err(fault) => {
-            let text = record_fault_line(heap, &fault)?;
-            Ok(Listing {
-                text,
-                fault: Some(fault),
-            })
-        }
+        Ok(()) => Listing::whole(heap, &show_record(heap, &record)?),
+        Err(fault) => Listing::refused(heap, fault),
     }
 }
 
@@ -43,50 +33,26 @@ pub fn show_record(heap: Global, clause: &Record) -> Result<String, AllocError>
     let mut text = String::new(heap);
     text.push_str("{")?;
     for (k, &start) in starts.iter().enumerate() {
-        text.push_str(separator(k))?;
-        show_word(heap, &mut text, WordAt { nodes, start })?;
+        text.push_str(divider("", k))?;
+        show_word(&mut text, WordAt { nodes, start })?;
     }
     text.push_str("}")?;
     Ok(text)
 }
 
-// The line of a fault.
-fn record_fault_line(heap: Global, fault: &RecordFault) -> Result<String, AllocError>
-    ensures { IfOk result (λ s. string_bytes s ≡ record_fault_line fault.now) }
-{
-    let why = record_sentence(fault);
-    layered_line(
-        heap,
-        fault.question(),
-        fault.byte(),
-        fault.literal(),
-        fault.layers(),
-        why,
-    )
-}
+impl Layered for RecordFault {
+    ghost tells = { told };
 
-// What is wrong, in words.
-fn record_sentence(fault: &RecordFault) -> &'static str
-    ensures { result.now ≡ record_sentence fault.now }
-{
-    match fault {
-        RecordFault::Number(number) => sentence(number),
-        RecordFault::Literals { first: _ } => "there are more than 16 literals",
-        RecordFault::Literal(place) => literal_sentence(&place.fault),
-        RecordFault::Left { first: _ } => "bytes are left over",
-    }
-}
+    ghost says = { sentence };
 
-// What is wrong with a literal, in words.
-fn literal_sentence(fault: &LiteralFault) -> &'static str
-    ensures { result.now ≡ literal_sentence fault.now }
-{
-    match fault {
-        LiteralFault::Number(number) => sentence(number),
-        LiteralFault::Word(word) => word_sentence(word),
-        LiteralFault::Places { first: _ } => "a predicate has more than 8 places",
-        LiteralFault::Nodes { first: _ } =>
-            "there are more nodes than the limit (64 in a place word, 256 in a record)",
-        LiteralFault::Repeated { first: _ } => "the literal repeats an earlier one",
+    fn origin(&self) -> Origin {
+        Origin {
+            question: self.question(),
+            byte: self.byte(),
+            literal: self.literal(),
+            layers: self.layers(),
+        }
     }
+
+    ghost shows = { λ fault. refl };
 }

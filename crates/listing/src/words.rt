@@ -1,11 +1,12 @@
 // Words in a legible form: X0 for a variable, a7 for a constant, f5(X0, a7) for a symbol over its places.
-ghost use Rattle.std.specs.Prelude.{◌≡◌, ◌++◌, IfOk, string_bytes};
+ghost use Rattle.std.specs.Prelude.{◌≡◌, ◌++◌, Some, IfOk, string_bytes};
 ghost use Rattle.place.specs.Places.{meaning};
 ghost use Rattle.term.specs.Coding.{word_at, Next};
-ghost use Rattle.listing.specs.Shown.{opening, closing, node_name, shown};
+ghost use Rattle.listing.specs.Shown.{divider, closing, node_name, shown};
 
 use place::PlaceWord;
 use std::alloc::{AllocError, Global};
+use std::fmt;
 use term::{Node, Symbol, WordAt, places};
 
 // A place word in legible form.
@@ -17,35 +18,31 @@ pub fn show_place(heap: Global, place: &PlaceWord) -> Result<String, AllocError>
         nodes: place.nodes(),
         start: 0,
     };
-    show_word(heap, &mut text, word)?;
+    show_word(&mut text, word)?;
     Ok(text)
 }
 
 // Puts a word at the end of the text, and answers where the word ends.
-pub(super) fn show_word(
-    heap: Global,
-    text: &mut String,
-    word: WordAt<'_>,
-) -> Result<usize, AllocError>
+pub(super) fn show_word(text: &mut String, word: WordAt<'_>) -> Result<usize, AllocError>
     ensures { IfOk result (λ j. Next word.entry.nodes.now word.entry.start j × (string_bytes text.new ≡ string_bytes text.old ++ shown (word_at word.entry.nodes.now word.entry.start))) }
 {
     let node = word.nodes[word.start];
-    text.push_str(node_name(heap, node)?.as_str())?;
+    write!(text, "{}", Name(node))?;
     let count = places(node);
     let mut at = word.start + 1;
     for n in 0..count {
-        text.push_str(opening(n))?;
-        at = show_word(heap, text, word.at(at))?;
+        text.push_str(divider("(", n))?;
+        at = show_word(text, word.at(at))?;
     }
     text.push_str(closing(count))?;
     Ok(at)
 }
 
-// What stands before the word in the place `n`.
-fn opening(n: usize) -> &'static str
-    ensures { result.now ≡ opening n }
+// What stands before the text in place `n` of several: `first` before the first of them, a comma before the others.
+pub(super) fn divider(first: &'static str, n: usize) -> &'static str
+    ensures { result.now ≡ divider first.now n }
 {
-    if n == 0 { "(" } else { ", " }
+    if n == 0 { first } else { ", " }
 }
 
 // What stands after the words in `count` places.
@@ -56,14 +53,19 @@ fn closing(count: usize) -> &'static str
 }
 
 // A node without its places.
-fn node_name(heap: Global, node: Node) -> Result<String, AllocError>
-    ensures { IfOk result (λ s. string_bytes s ≡ node_name node) }
-{
-    match node {
-        Node::Variable(x) => format!(in heap; "X{x}"),
-        Node::Applied(Symbol::Function(a), 0) => format!(in heap; "a{a}"),
-        Node::Applied(Symbol::Function(f), _) => format!(in heap; "f{f}"),
-        Node::Applied(Symbol::Positive(p), _) => format!(in heap; "p{p}"),
-        Node::Applied(Symbol::Negative(p), _) => format!(in heap; "-p{p}"),
+#[derive(Clone, Copy)]
+struct Name(Node);
+
+impl fmt::Display for Name {
+    ghost output = { λ name. Some (node_name name.0) };
+
+    fn fmt<W: fmt::Write>(&self, f: &mut fmt::Formatter<W>) -> fmt::Result {
+        match self.0 {
+            Node::Variable(x) => write!(f, "X{x}"),
+            Node::Applied(Symbol::Function(a), 0) => write!(f, "a{a}"),
+            Node::Applied(Symbol::Function(g), _) => write!(f, "f{g}"),
+            Node::Applied(Symbol::Positive(p), _) => write!(f, "p{p}"),
+            Node::Applied(Symbol::Negative(p), _) => write!(f, "-p{p}"),
+        }
     }
 }

@@ -9,7 +9,7 @@ use Rattle.gathering.proofs.whole.gather.Given as goal
 abbrev pub invariant-loop-at : goal.invariant-loop-at
 invariant-loop-at l =
     (l.at ≤ length l.input)
-    × ((ms : List Word) × Gathers ms l.class
+    × ((ms : List Word) × Gathers ms l.gatherer.class
     × ((turns : ℕ) × (length l.input - l.at ≤ turns) × (after (string_bytes l.text) (gathered_from turns l.input l.at ms) ≡ gathered l.input)))
 
 abbrev pub decreases-loop-at : goal.decreases-loop-at

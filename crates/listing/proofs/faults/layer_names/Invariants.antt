@@ -1,5 +1,6 @@
 use Rattle.std.proofs.Common.{◌≡◌, ◌++◌, drop, string_bytes}
-use Rattle.listing.specs.PlaceLines.{layer_name, layer_names}
+use Rattle.listing.specs.FaultLines.{layer_names}
+use Rattle.word.specs.Faults.{layer_name}
 use Rattle.listing.specs.Shown.{separated}
 use Rattle.listing.proofs.faults.layer_names.Given as goal
 

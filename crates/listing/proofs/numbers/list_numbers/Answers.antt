@@ -18,8 +18,8 @@ loop-at-preserved c =
     let old = string_bytes c.loop-at.text in
     let inv = c.loop-at.invariant in
     let read = c.in-Ok.ensures in
-    let line : c.as_str.result.now ≡ number_line c.loop-at.at c.in-Ok.value = c.as_str.ensures.value ∙ c.in_ok-number_line-in-Ok.ensures in
-    let text = pushed c.as_str.result.now refl c.in_ok-push_str-in-Ok.was c.push_str.ensures.bytes in
+    let line : c.deref.result.now ≡ number_line c.loop-at.at c.in-Ok.value = c.deref.ensures ∙ c.in_ok-number_line-in-Ok.ensures in
+    let text = pushed c.deref.result.now refl c.in_ok-push_str-in-Ok.was c.push_str.ensures.bytes in
     let next = listed_from (inv.2.0 - 1) input c.in-Ok.next (c.loop-at.count + 1) in (
       read.exact.1,
       omega (arith, read.exact.0),
@@ -38,8 +38,8 @@ returns-in-Err c =
     let input = c.args.input.now in
     let old = string_bytes c.loop-at.text in
     let inv = c.loop-at.invariant in
-    let line : c.as_str-in-Err.result.now ≡ fault_line c.in-Err.fault = c.as_str-in-Err.ensures.value ∙ c.in_ok-fault_line-in-Err.ensures in
-    let text = pushed c.as_str-in-Err.result.now refl c.in_ok-push_str-in-Err.was c.push_str-in-Err.ensures.bytes in
+    let line : c.deref-in-Err.result.now ≡ fault_line c.in-Err.fault = c.deref-in-Err.ensures ∙ c.in_ok-fault_line-in-Err.ensures in
+    let text = pushed c.deref-in-Err.result.now refl c.in_ok-push_str-in-Err.was c.push_str-in-Err.ensures.bytes in
     let value =
     ap (λ (l : List ℕ). (l, Some c.in-Err.fault)) (text ∙ ap (λ (l : List ℕ). old ++ l) line)
     ∙ ap (after old) (sym (from-fault inv.2.0 input c.loop-at.at c.loop-at.count (omega arith) inv.2.1 c.in-Err.fault (sym c.in-Err.ensures.value)))
@@ -50,8 +50,8 @@ pub returns : goal.returns
 returns c =
     let old = string_bytes c.loop-at.text in
     let inv = c.loop-at.invariant in
-    let line : c.as_str-2.result.now ≡ count_line c.loop-at.count = c.as_str-2.ensures.value ∙ c.in_ok-count_line.ensures in
-    let text = pushed c.as_str-2.result.now refl c.in_ok-push_str.was c.push_str-2.ensures.bytes in
+    let line : c.deref-2.result.now ≡ count_line c.loop-at.count = c.deref-2.ensures ∙ c.in_ok-count_line.ensures in
+    let text = pushed c.deref-2.result.now refl c.in_ok-push_str.was c.push_str-2.ensures.bytes in
     let value =
     ap (λ (l : List ℕ). (l, None)) (text ∙ ap (λ (l : List ℕ). old ++ l) line)
     ∙ ap (after old) (sym (from_end inv.2.0 c.args.input.now c.loop-at.at c.loop-at.count (omega arith)))

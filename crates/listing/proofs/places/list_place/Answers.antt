@@ -1,4 +1,4 @@
-use Rattle.std.proofs.Common.{◌≡◌, ℕ, List, ◌++◌, Some, None, string_bytes, codes, sym, refl, ap, ◌∙◌}
+use Rattle.std.proofs.Common.{◌≡◌, ◌++◌, codes, None, sym, refl, ap, ◌∙◌}
 use Rattle.term.specs.Coding.{code, hd, decode}
 use Rattle.term.proofs.Codings.{meant}
 use Rattle.place.specs.Packing.{read_place}
@@ -6,18 +6,19 @@ use Rattle.place.specs.Places.{meaning}
 use Rattle.place.proofs.Forms.{read-gave, read-refused}
 use Rattle.listing.specs.PlaceLines.{place_listed}
 use Rattle.listing.specs.Shown.{shown}
+use Rattle.listing.proofs.Made.{made}
 use Rattle.listing.proofs.places.list_place.Goals as goal
 
-pub returns-in_ok-push_str-in-Ok : goal.returns-in_ok-push_str-in-Ok
+pub returns-in_ok-show_place-in-Ok : goal.returns-in_ok-show_place-in-Ok
 unfolding place_listed
-returns-in_ok-push_str-in-Ok c =
+returns-in_ok-show_place-in-Ok c =
     let p = c.read.new.self in
     let read = read-gave (read_place c.args.input.now) c.new-place.result p c.in-Ok.ensures.value in
-    let word : string_bytes c.in_ok-text-in-Ok.text ≡ shown (hd (decode (code (meaning p)))) = c.in_ok-text-in-Ok.ensures ∙ ap shown (sym (meant (meaning p) (code (meaning p)) refl)) in
-    ap (λ (l : List ℕ). (l, None)) (c.in_ok-push_str-in-Ok.ensures.bytes ∙ ap (λ (l : List ℕ). l ++ codes "\n") word) ∙ ap place_listed (sym read)
+    let word : c.deref.result.now ≡ shown (hd (decode (code (meaning p)))) = c.deref.ensures ∙ c.in_ok-show_place-in-Ok.ensures ∙ ap shown (sym (meant (meaning p) (code (meaning p)) refl)) in
+    made _ _ c.whole.result _ _ (place_listed (read_place c.args.input.now)) c.whole.ensures.text c.whole.ensures.fault (ap place_listed read ∙ (λ i. (sym word i ++ codes "\n", None)))
 
-pub returns-in_ok-text-in-Err : goal.returns-in_ok-text-in-Err
+pub returns-in-Err : goal.returns-in-Err
 unfolding place_listed
-returns-in_ok-text-in-Err c =
+returns-in-Err c =
     let read = read-refused (read_place c.args.input.now) c.new-place.result c.read.new.self c.in-Err.fault c.in-Err.ensures.value in
-    ap (λ (l : List ℕ). (l, Some c.in-Err.fault)) c.in_ok-text-in-Err.ensures ∙ ap place_listed (sym read)
+    made _ _ c.refused.result _ _ (place_listed (read_place c.args.input.now)) c.refused.ensures.text c.refused.ensures.fault (ap place_listed read)

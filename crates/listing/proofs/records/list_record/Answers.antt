@@ -1,18 +1,22 @@
-use Rattle.std.proofs.Common.{ℕ, List, ◌++◌, Some, None, codes, sym, ap, ◌∙◌}
+use Rattle.std.proofs.Common.{◌≡◌, ◌++◌, codes, None, sym, ap, ◌∙◌}
 use Rattle.record.specs.Reads.{read_record}
+use Rattle.record.specs.Records.{literals}
 use Rattle.record.proofs.Forms.{read-gave, read-refused}
 use Rattle.listing.specs.RecordLines.{record_listed}
+use Rattle.listing.specs.Shown.{shown_clause}
+use Rattle.listing.proofs.Made.{made}
 use Rattle.listing.proofs.records.list_record.Goals as goal
 
-pub returns-in_ok-push_str-in-Ok : goal.returns-in_ok-push_str-in-Ok
+pub returns-in_ok-show_record-in-Ok : goal.returns-in_ok-show_record-in-Ok
 unfolding record_listed
-returns-in_ok-push_str-in-Ok c =
+returns-in_ok-show_record-in-Ok c =
     let r = c.read.new.self in
     let read = read-gave (read_record c.args.input.now) c.new-record.result r c.in-Ok.ensures.value in
-    ap (λ (l : List ℕ). (l, None)) (c.in_ok-push_str-in-Ok.ensures.bytes ∙ ap (λ (l : List ℕ). l ++ codes "\n") c.in_ok-text-in-Ok.ensures) ∙ ap record_listed (sym read)
+    let text : c.deref.result.now ≡ shown_clause (literals r) = c.deref.ensures ∙ c.in_ok-show_record-in-Ok.ensures in
+    made _ _ c.whole.result _ _ (record_listed (read_record c.args.input.now)) c.whole.ensures.text c.whole.ensures.fault (ap record_listed read ∙ (λ i. (sym text i ++ codes "\n", None)))
 
-pub returns-in_ok-text-in-Err : goal.returns-in_ok-text-in-Err
+pub returns-in-Err : goal.returns-in-Err
 unfolding record_listed
-returns-in_ok-text-in-Err c =
+returns-in-Err c =
     let read = read-refused (read_record c.args.input.now) c.new-record.result c.read.new.self c.in-Err.fault c.in-Err.ensures.value in
-    ap (λ (l : List ℕ). (l, Some c.in-Err.fault)) c.in_ok-text-in-Err.ensures ∙ ap record_listed (sym read)
+    made _ _ c.refused.result _ _ (record_listed (read_record c.args.input.now)) c.refused.ensures.text c.refused.ensures.fault (ap record_listed read)

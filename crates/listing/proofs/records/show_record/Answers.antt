@@ -25,7 +25,7 @@ loop-k-preserved c =
     let nodes = c.nodes-nodes.result.now in
     let starts = c.starts-starts.result.now in
     let show = λ (i : ℕ). shown (word_at nodes i) in
-    let first = pushed c.separator.result.now refl c.in_ok-push_str-2.was c.push_str-in-loop-k.ensures.bytes ∙ ap (λ (t : List ℕ). old ++ t) c.separator.ensures in
+    let first = pushed c.divider.result.now refl c.in_ok-push_str-2.was c.push_str-in-loop-k.ensures.bytes ∙ ap (λ (t : List ℕ). old ++ t) c.divider.ensures in
     one_more show starts (codes "{" ++ separated show 0 starts) c.loop-k.k 0 old (string_bytes c.push_str-in-loop-k.new.self) (string_bytes c.show_word.new.text) c.loop-k-test.true c.loop-k.invariant first c.in_ok-show_word.ensures.1
 
 pub returns : goal.returns

@@ -1,19 +1,17 @@
-use Rattle.std.proofs.Common.{◌≡◌, ◌+◌, ◌≤◌, List, ◌∷◌, length, string_bytes, Result, sym, refl, ap, ◌∙◌, subst, arith}
+use Rattle.std.proofs.Common.{◌≡◌, ◌≤◌, List, ◌∷◌, length, string_bytes, sym, refl, ap, ◌∙◌, subst, arith}
 use Rattle.term.specs.Coding.{code}
 use Rattle.term.specs.Words.{Word}
-use Rattle.term.specs.declared.node.Node.{Node}
 use Rattle.term.proofs.Codings.{meant}
-use Rattle.place.specs.declared.fault.PlaceFault.{PlaceFault}
 use Rattle.place.specs.Faults.{told}
 use Rattle.place.specs.Packing.{read_place}
 use Rattle.place.specs.Places.{meaning}
 use Rattle.place.proofs.Forms.{read-gave, read-refused}
 use Rattle.gathering.specs.Gathered.{Told, one_entry}
-use Rattle.gathering.specs.Lines.{bad_line, taken_line}
+use Rattle.gathering.specs.Lines.{taken_line}
 use Rattle.gathering.specs.States.{Gathers}
 use Rattle.gathering.proofs.Bounds.{PlaceBy, place-by}
 use Rattle.gathering.proofs.Takes.{made-on}
-use Rattle.gathering.proofs.taking.turn.Goals as goal
+use Rattle.gathering.proofs.taking.Gatherer.turn.Goals as goal
 
 pub overflow_add-start : goal.overflow_add-start
 overflow_add-start c =
@@ -26,15 +24,9 @@ pub returns-in-Ok : goal.returns-in-Ok
 returns-in-Ok c =
     let bytes = c.args.bytes.now in
     let place = c.read.new.self in
+    let after = c.take.new.self.class in
     let is = read-gave (read_place bytes) c.new-place.result place c.in-Ok.ensures.value in
     let one : (ms : List Word) → (taken_line ms, meaning place ∷ ms) ≡ one_entry c.args.start ms (read_place bytes) =
     λ ms. ap (λ (w : Word). (taken_line ms, w ∷ ms)) (sym (meant (meaning place) (code (meaning place)) refl)) ∙ ap (one_entry c.args.start ms) (sym is) in
     made-on _ _ c.take.result c.take.ensures
-    (λ t goes ms g. subst (λ (o : Told). Gathers o.1 t.class × (string_bytes t.line ≡ o.0)) (one ms) (goes ms g))
-
-pub returns-in_ok-line-in-Err : goal.returns-in_ok-line-in-Err
-returns-in_ok-line-in-Err c ms g =
-    let bytes = c.args.bytes.now in
-    let is = read-refused (read_place bytes) c.new-place.result c.read.new.self c.in-Err.fault c.in-Err.ensures.value in
-    subst (λ (r : Result (List Node) PlaceFault). Gathers (one_entry c.args.start ms r).1 c.args.class × (string_bytes c.in_ok-line-in-Err.line ≡ (one_entry c.args.start ms r).0)) (sym is)
-    (g, c.in_ok-line-in-Err.ensures ∙ (λ i. bad_line (c.question.ensures i) (c.args.start + c.byte.ensures i)))
+    (λ s goes ms g. subst (λ (o : Told). Gathers o.1 after × (string_bytes s ≡ o.0)) (one ms) (goes ms g))

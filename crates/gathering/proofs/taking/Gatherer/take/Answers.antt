@@ -5,12 +5,14 @@ use Rattle.place.specs.Places.{meaning}
 use Rattle.term.specs.Words.{Word}
 use Rattle.gathering.specs.Lines.{taken_line}
 use Rattle.gathering.specs.States.{Gathers, Gathering}
-use Rattle.gathering.proofs.Takes.{begins}
-use Rattle.gathering.proofs.taking.take.Goals as goal
+use Rattle.gathering.proofs.Takes.{begins, made-on}
+use Rattle.gathering.proofs.taking.Gatherer.take.Goals as goal
 
-pub returns-in_ok-line-in-None : goal.returns-in_ok-line-in-None
-returns-in_ok-line-in-None c ms g =
+pub returns-in-None : goal.returns-in-None
+returns-in-None c =
+    made-on _ _ c.format.result c.format.ensures.ok
+    (λ s e ms g.
     let none : ms ≡ [] = subst (λ (o : Option (Class PlaceWord)). Gathers ms o) c.in-None.is g in (
       subst (λ (l : List Word). Gathering (meaning c.args.place ∷ l) c.begin.result) (sym none) (begins c.args.place c.begin.result c.begin.ensures.law),
-      c.in_ok-line-in-None.ensures.ok ∙ sym (ap taken_line none),
-    )
+      e ∙ sym (ap taken_line none),
+    ))
