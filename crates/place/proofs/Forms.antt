@@ -11,6 +11,7 @@ use Rattle.word.specs.Packed.{packed, seen_after}
 use Rattle.word.specs.Reads.{read_words, Gives, Added}
 use Rattle.word.proofs.Laws.{lawful-writable}
 use Rattle.number.proofs.Answers.{clash}
+use Rattle.word.proofs.Becoming.{became, stayed}
 use Rattle.word.proofs.Back.{reads-packed}
 use Rattle.word.proofs.Turns.{gave-fault, gave-words}
 use Rattle.place.specs.declared.fault.PlaceFault.{PlaceFault}
@@ -84,9 +85,7 @@ module _ (input : List ℕ) (before : PlaceWord) (new nodes : List Node) (none :
 
 -- what an answer of a read says of the definition
 pub read-gave : (R : Result (List Node) PlaceFault) (before after : PlaceWord) → Reads R before (Ok tt) after → R ≡ Ok (code (meaning after))
-read-gave (Ok nodes) before after r = ap Ok (sym r.1)
-read-gave (Err fault) before after r = absurd (clash fault tt (sym r.0))
+read-gave = became (λ p. code (meaning p))
 
 pub read-refused : (R : Result (List Node) PlaceFault) (before after : PlaceWord) (fault : PlaceFault) → Reads R before (Err fault) after → R ≡ Err fault
-read-refused (Ok nodes) before after fault r = absurd (clash fault tt r.0)
-read-refused (Err d) before after fault r = let h = r.0 in let e : fault ≡ d = cc in ap Err (sym e)
+read-refused = stayed (λ p. code (meaning p))

@@ -2,6 +2,7 @@
 use Rattle.std.specs.Prelude.{◌≡◌, ℕ, cond, List, [], length, Ok, Err, Result, ◌≢◌, nat_lt}
 use Rattle.term.specs.Coding.{code}
 use Rattle.term.specs.declared.node.Node.{Node}
+use Rattle.word.specs.Becomes.{Becomes}
 use Rattle.word.specs.Packed.{packed}
 use Rattle.word.specs.Reads.{read_words}
 use Rattle.word.specs.Then.{then}
@@ -20,8 +21,7 @@ read_place input = then Word (read_words 1 64 0 input 0 []) (λ p. cond (nat_lt 
 
 -- the answer is what the definition gives; the place word is the one read, or after a fault the one before
 abbrev pub Reads : Result (List Node) PlaceFault → (before : PlaceWord) → Result (Unit {0}) PlaceFault → (after : PlaceWord) → Type 0
-Reads (Ok nodes) before r after = (r ≡ Ok tt) × (code (meaning after) ≡ nodes)
-Reads (Err fault) before r after = (r ≡ Err fault) × (after ≡ before)
+Reads = Becomes (λ p. code (meaning p))
 
 -- the input was the form of the place word read, so it is written back as the same bytes; or it is the form of none
 abbrev pub Exactly : List ℕ → Result (Unit {0}) PlaceFault → (after : PlaceWord) → Type 0

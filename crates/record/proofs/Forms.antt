@@ -16,6 +16,7 @@ use Rattle.term.specs.Coding.{code, codes}
 use Rattle.term.specs.Words.{Words, nil, cons, ◌+++◌, len}
 use Rattle.term.proofs.Codings.{all_words}
 use Rattle.word.specs.Packed.{packed}
+use Rattle.word.proofs.Becoming.{became, stayed}
 use Rattle.word.proofs.Laws.{packed_none, packed-append, between_join}
 use Rattle.word.proofs.Puts.{wrote-puts}
 use Rattle.word.proofs.Turns.{then-made}
@@ -138,12 +139,10 @@ module _ (input : List ℕ) (bytes : (i : ℕ) → get_or input i 0 < 256) (befo
 
 -- what an answer of a read says of the definition
 pub read-gave : (R : Result Words RecordFault) (before after : Record) → Reads R before (Ok tt) after → R ≡ Ok (literals after)
-read-gave (Ok ls) before after r = ap Ok (sym r.1)
-read-gave (Err fault) before after r = absurd (clash fault tt (sym r.0))
+read-gave = became literals
 
 pub read-refused : (R : Result Words RecordFault) (before after : Record) (fault : RecordFault) → Reads R before (Err fault) after → R ≡ Err fault
-read-refused (Ok ls) before after fault r = absurd (clash fault tt r.0)
-read-refused (Err d) before after fault r = let h = r.0 in let e : fault ≡ d = cc in ap Err (sym e)
+read-refused = stayed literals
 
 -- bytes written after a number that was left out, and then the number
 module _ (count : ℕ) (others before mid : List ℕ) (at : ℕ) (start : at ≡ length (form count)) where

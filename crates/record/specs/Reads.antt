@@ -7,6 +7,7 @@ use Rattle.term.specs.Words.{Word, app, Words, nil, cons, ◌+++◌, len, sizes}
 use Rattle.term.specs.declared.node.Node.{Node}
 use Rattle.term.specs.declared.node.Symbol.{Symbol}
 use Rattle.term.specs.declared.node.Symbol.TheVariants.{Positive, Negative}
+use Rattle.word.specs.Becomes.{Becomes}
 use Rattle.word.specs.Packed.{packed}
 use Rattle.word.specs.Reads.{read_words}
 use Rattle.word.specs.Then.{then}
@@ -96,8 +97,7 @@ clause_form ls = form (len ls) ++ packed (codes ls)
 
 -- the answer is what the definition gives; the record holds the literals read, or after a fault it is the one before
 abbrev pub Reads : Result Words RecordFault → (before : Record) → Result (Unit {0}) RecordFault → (after : Record) → Type 0
-Reads (Ok ls) before r after = (r ≡ Ok tt) × (literals after ≡ ls)
-Reads (Err fault) before r after = (r ≡ Err fault) × (after ≡ before)
+Reads = Becomes literals
 
 -- the input was the form of the clause read, so it is written back as the same bytes; or it is the form of no clause that
 -- a record can hold

@@ -3,3 +3,4 @@ pub mod Turns
 pub mod Puts
 pub mod Back
 pub mod Exact
+pub mod Becoming

@@ -3,3 +3,4 @@ pub mod Packed
 pub mod Then
 pub mod Reads
 pub mod Writes
+pub mod Becomes

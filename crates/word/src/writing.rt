@@ -12,11 +12,7 @@ pub fn packed_length(nodes: &[Node]) -> usize
     requires { Writable nodes.now }
     ensures { result ≡ length (packed nodes.now) }
 {
-    let mut total = 0;
-    for node in nodes {
-        total += node_length(*node);
-    }
-    total
+    nodes.iter().map(|node| node_length(*node)).sum()
 }
 
 // Writes the packed form of `nodes` at `at`, and answers the place after it.

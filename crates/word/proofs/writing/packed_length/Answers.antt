@@ -1,21 +1,28 @@
-use Rattle.std.proofs.Common.{◌≡◌, ◌+◌, ◌∷◌, length, get_or, drop, ap, ◌∙◌, subst, arith}
-use Rattle.std.proofs.lemmas.List.{drop_more, drop_all}
-use Rattle.term.specs.declared.node.Node.TheVariants.{Variable}
-use Rattle.word.specs.Packed.{packed, Writable}
-use Rattle.word.proofs.Laws.{packed_none}
-use Rattle.word.proofs.Puts.{length_more}
+use Rattle.std.proofs.Common.{◌≡◌, ℕ, zero, suc, ◌≤◌, ◌<◌, ◌^◌, List, [], ◌∷◌, length, get_or, sym, refl, ◌∙◌, subst, arith, rules}
+use Rattle.std.specs.List.{sum_by}
+use Rattle.std.proofs.lemmas.Iterator.{YieldsList-from_slice}
+use Rattle.std.proofs.lemmas.Iterator.Adapters.{fits_from_length, at_most_from_yields_List, serves_from_places}
+use Rattle.std.proofs.lemmas.List.Concat.{length-flat_map}
+use Rattle.term.specs.declared.node.Node.{Node}
+use Rattle.word.specs.Packed.{packed, packed_node, node_number, Writable}
 use Rattle.word.proofs.writing.packed_length.Goals as goal
 
-pub loop-node-preserved : goal.loop-node-preserved
-loop-node-preserved c =
-    let nodes = c.args.nodes.now in
-    let i = c.loop-node.node-index in
-    let node = get_or nodes i (Variable 0) in
-    let more : drop i nodes ≡ node ∷ drop (i + 1) nodes = drop_more nodes i (Variable 0) (omega arith) in
-    let long = ap (λ l. length (packed l)) more ∙ length_more node (drop (i + 1) nodes) in
-    (omega (arith, long), omega arith, (subst Writable more c.loop-node.invariant.2).1)
+writable-at : (nodes : List Node) → Writable nodes → (k : ℕ) → k < length nodes → (d : Node) → node_number (get_or nodes k d) ≤ 32767
+writable-at [] w k h d = absurd (omega arith)
+writable-at (n ∷ nodes) w zero h d = w.0
+writable-at (n ∷ nodes) w (suc k) h d = writable-at nodes w.1 k (omega arith) d
+
+pub sum-requires-clause-can : goal.sum-requires-clause-can
+sum-requires-clause-can c =
+    (tt, serves_from_places (YieldsList-from_slice c.args.nodes.now cc) (λ x q r. refl) (λ x k h e. λ _ _ _ _ _ _. subst (λ n. node_number n ≤ 32767) (sym e) (writable-at c.args.nodes.now c.requires k h x.now)))
+
+pub sum-requires-clause-fits : goal.sum-requires-clause-fits
+sum-requires-clause-fits c =
+    let few : length c.args.nodes.now ≤ 2 ^ 61 = omega arith in
+    fits_from_length _ _ (2 ^ 61) (2 ^ 64) (at_most_from_yields_List (YieldsList-from_slice c.args.nodes.now cc) few) c.map.ensures.closure (omega arith) (λ x r q k. search rules)
 
 pub returns : goal.returns
+unfolding packed
 returns c =
-    let none = ap (λ l. length (packed l)) (drop_all c.loop-node.node-index c.args.nodes.now (omega arith)) ∙ ap length packed_none in
-    omega (arith, none)
+    let all : c.sum.result ≡ sum_by (λ n. length (packed_node n)) c.args.nodes.now = search rules in
+    all ∙ sym (length-flat_map packed_node c.args.nodes.now)
