@@ -7,9 +7,6 @@ use Rattle.record.specs.Reads.{words_from, Inside}
 use Rattle.record.proofs.Places.{stands-none, stands-first, stands-later}
 use Rattle.record.proofs.literal.stands_among.Goals as goal
 
-pub at-requires : goal.at-requires
-at-requires c = (subst (Inside (length c.args.word.nodes.now)) (drop_more c.args.starts.now c.loop-start.start-index 0 (omega arith)) c.loop-start.invariant.1).0
-
 pub returns-then-is_same : goal.returns-then-is_same
 returns-then-is_same c =
     let nodes = c.args.word.nodes.now in
