@@ -156,6 +156,7 @@ mod tests {
         Ok(place)
     }
 
+    // Beside it `lists_record` is the same of a record: one function over both would make each of their calls longer.
     fn lists(rt: &(impl Abort + AllocGlobal), input: &[u8], text: &str) -> Result<(), Fail> {
         let listing = listing::list_place(rt.alloc(), input)?;
         assert_eq!(rt; listing.text.as_str(), text);

@@ -5,7 +5,8 @@ ghost use Rattle.number.specs.Faults.{told, sentence, no_room};
 use std::error::Error;
 use std::fmt;
 
-// The first question of the reader that was answered with no.
+// The first question of the reader that was answered with no. The faults of the other readers have methods of the same
+// names and no trait over all: each tells of cases of its own, and nothing asks a fault without knowing whose it is.
 #[derive(Clone, Copy, PartialEq, Debug)]
 pub enum NumberFault {
     // 1: is there another byte? The input ends at `end`.

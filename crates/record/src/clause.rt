@@ -12,7 +12,7 @@ mod packing;
 
 // A clause of at most 16 literals and 256 nodes: no symbol and no predicate has more than 8 places, no literal stands
 // twice, and the variables are numbered from 0 in the order of their first standing. The nodes stand in preorder, one
-// literal after the other, and `starts` says where each begins.
+// literal after the other, and `starts` says where each begins; both stand in place, since the library has no heap.
 // No `impl Model`: the type is `Copy`, so a view would need an inverse, and `literals` forgets what stands in the places that
 // are not in use.
 #[derive(Clone, Copy)]

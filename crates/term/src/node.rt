@@ -1,4 +1,5 @@
 // One node of a word or a literal. The nodes of a word stand in preorder: a symbol, then the words in its places.
+// No tree of boxes, since the library has no heap; and a node's index is its place in the written order.
 
 // What a node's places belong to: a function symbol, or a predicate with its sign. A literal is a word whose first
 // symbol is a predicate.

@@ -40,7 +40,8 @@ impl<T: Copy, const N: usize> Bounded<T, N> {
         self.as_slice().get(i).copied()
     }
 
-    // Puts `x` in the place of the element at `i`; false, and nothing changes, where there is none.
+    // Puts `x` in the place of the element at `i`; false, and nothing changes, where there is none. A bool, since there is
+    // nothing more to say.
     pub fn set(&mut self, i: usize, x: T) -> bool
         ensures value { result ≡ nat_lt i (length (elems self.old)) }
         ensures after { elems self.new ≡ slice_set (elems self.old) i x }
