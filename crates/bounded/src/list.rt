@@ -7,7 +7,8 @@ mod ops;
 #[derive(Clone, Copy, PartialEq, Debug)]
 pub struct Full;
 
-// An array with a length beside it and not a `Vec`, since the library has no heap. No `impl Model`: the type is `Copy`, so a
+// An array with a length beside it and not a `Vec`, since the library has no heap; nor the toolchain's `ArrayVec`, which is
+// never `Copy`. No `impl Model`: the type is `Copy`, so a
 // view would need an inverse, and the view as `elems` forgets what stands in the places that are not in use.
 #[derive(Copy)]
 pub struct Bounded<T: Copy, const N: usize> {

@@ -2,8 +2,9 @@
 ghost use Rattle.std.specs.Prelude.{Decides};
 ghost use Rattle.class.specs.Kinds.{Subject, Laws, Covers, Tidied, Joined};
 
-// Why two things have no join within the limit. A number and no enum: every kind states its own, and an enum here would have
-// to know the reasons of all kinds, those to come too.
+// Why two things have no join within the limit. A number and no enum: every kind states its own, those to come too. And no
+// error type of each kind's own: then the class could make no refusal, and the must-fail edits that reject without joining,
+// which show that its contract forbids that, could not be written.
 #[derive(Clone, Copy, PartialEq, Debug)]
 pub struct Refusal {
     pub number: u8,

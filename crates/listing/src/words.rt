@@ -22,7 +22,7 @@ pub fn show_place(heap: Global, place: &PlaceWord) -> Result<String, AllocError>
     Ok(text)
 }
 
-// Puts a word at the end of the text, and answers where the word ends.
+// Puts a word at the end of the text, and answers where the word ends; so it is no `Display`, which answers nothing.
 pub(super) fn show_word(text: &mut String, word: WordAt<'_>) -> Result<usize, AllocError>
     ensures { IfOk result (λ j. Next word.entry.nodes.now word.entry.start j × (string_bytes text.new ≡ string_bytes text.old ++ shown (word_at word.entry.nodes.now word.entry.start))) }
 {

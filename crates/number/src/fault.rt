@@ -6,7 +6,7 @@ use std::error::Error;
 use std::fmt;
 
 // The first question of the reader that was answered with no. The faults of the other readers have methods of the same
-// names and no trait over all: each tells of cases of its own, and nothing asks a fault without knowing whose it is.
+// names; a trait over all would save no line, since each would still match its own cases.
 #[derive(Clone, Copy, PartialEq, Debug)]
 pub enum NumberFault {
     // 1: is there another byte? The input ends at `end`.

@@ -5,7 +5,8 @@ ghost use Rattle.term.specs.Standing.{Whole-prop};
 
 use super::Node;
 
-// A word that stands among nodes in preorder: the nodes, and where among them it begins.
+// A word that stands among nodes in preorder: the nodes, and where among them it begins. No `impl Model`, by which clauses
+// would speak of the word alone: a type with a lifetime that has one cannot be `Copy`, and where a word ends is asked too.
 #[derive(Clone, Copy)]
 pub struct WordAt<'a> {
     pub nodes: &'a [Node],

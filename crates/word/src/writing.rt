@@ -7,7 +7,8 @@ ghost use Rattle.word.specs.Writes.{Back};
 use number::NoRoom;
 use term::{Node, Symbol};
 
-// How many bytes the packed form of `nodes` has.
+// How many bytes the packed form of `nodes` has. That the numbers are small enough is asked here and below and stands in no
+// type: a node may hold any number, and a type that could not would ask more of whoever makes nodes.
 pub fn packed_length(nodes: &[Node]) -> usize
     requires { Writable nodes.now }
     ensures { result ≡ length (packed nodes.now) }

@@ -75,7 +75,7 @@ impl<T: Copy, const N: usize> Bounded<T, N> {
     }
 }
 
-// By hand, since `Clone` cannot be derived for a struct with a ghost field.
+// By hand, since `Clone` cannot be derived for a generic struct with a ghost field.
 impl<T: Copy, const N: usize> Clone for Bounded<T, N> {
     ghost is_clone = { λ x y. y ≡ x };
 
