@@ -17,15 +17,18 @@ pub(super) struct Origin {
     pub layers: &'static [Layer],
 }
 
-// A fault that has layers, and says what is wrong.
+// A fault that has layers, and prints what is wrong.
 pub(super) trait Layered: Display + Drop {
+    // Its question, its byte, the literal in hand, and its layers.
     ghost tells: { Self → ℕ × ℕ × Option ℕ × List AnyLayer };
 
+    // What is wrong, in words.
     ghost says: { Self → List ℕ };
 
     fn origin(&self) -> Origin
         ensures { (result.question, result.byte, result.literal, result.layers.now) ≡ tells self.now };
 
+    // That is what it prints.
     ghost shows: { (fault : Self) → Self.output fault ≡ Some (says fault) };
 }
 
