@@ -1,11 +1,13 @@
 -- A bit that is flipped, and the others.
-use Rattle.std.proofs.Common.{◌≡◌, ℕ, zero, suc, ◌+◌, ◌-◌, ◌*◌, ◌/◌, ◌%◌, ◌^◌, ◌<◌, ◌≤◌, List, length, get_or, set, sym, refl, ap, ◌∙◌, ⊎_elim, one-mul, arith}
-use native.Mathlib.Nat.{div-eq_of_lt}
+use Rattle.std.proofs.Common.{◌≡◌, ℕ, zero, suc, ◌+◌, ◌-◌, ◌*◌, ◌/◌, ◌%◌, ◌^◌, ◌<◌, ◌≤◌, List, length, get_or, set, replicate, Some, None, sym, refl, ap, ◌∙◌, ⊎_elim, one-mul, arith}
+use native.Mathlib.Nat.{div-eq_of_lt, zero-div}
 use lib.Bits.{bit_xor, shifted_even, xor_shr, xor_mod, xor_zero_r}
 use Rattle.std.proofs.lemmas.Nat.{pow-add, shl-shr, pow_below, one_shl}
-use Rattle.std.proofs.lemmas.List.{get_or-set_same, get_or-set_other}
+use Rattle.std.proofs.lemmas.List.{get_or-set_same, get_or-set_other, get_or-replicate, get_or_past, length-replicate}
+use Rattle.std.specs.Int.{w64, trailing_zeros}
+use Rattle.std.proofs.lemmas.Nat.Bits.{bit_at-trailing_zeros}
 use Rattle.std.proofs.lemmas.Bool.{cases_eq, cases_lt}
-use Rattle.subsume.specs.Bits.{bit, bit_at}
+use Rattle.subsume.specs.Bits.{bit, bit_at, First}
 
 -- a power of two has one bit
 pub power-other : (b c : ℕ) → (c ≡ b → ⊥) → bit (2 ^ b) c ≡ 0
@@ -71,3 +73,40 @@ module _ (words : List ℕ) (k : ℕ) (inside : k < 64 * length words) where
       ∙ ap (λ (z : ℕ). bit (get_or words z 0) (l % 64)) (sym e))
       (λ e. ap (λ (x : ℕ). bit x (l % 64)) (get_or-set_other words (k / 64) (l / 64) _ 0 e))
       (cases_eq (l / 64) (k / 64))
+
+-- a word without bits, and the least bit of another
+no-bit : (k : ℕ) → bit 0 k ≡ 0
+unfolding bit
+no-bit k = ap (λ (x : ℕ). x % 2) (zero-div (2 ^ k))
+
+pub empty-word : (words : List ℕ) (l : ℕ) → get_or words (l / 64) 0 ≡ 0 → bit_at words l ≡ 0
+unfolding bit_at
+empty-word words l e = ap (λ (x : ℕ). bit x (l % 64)) e ∙ no-bit (l % 64)
+
+pub none-in : (n k : ℕ) → bit_at (replicate n 0) k ≡ 0
+none-in n k =
+    empty-word (replicate n 0) k
+    (⊎_elim (λ (h : k / 64 < n). get_or-replicate n (k / 64) 0 0 h) (λ h. get_or_past (replicate n 0) (k / 64) 0 (omega (arith, length-replicate {A = ℕ} n 0))) (cases_lt (k / 64) n))
+
+-- the least bit of the first word that has bits
+pub first-word : (words : List ℕ) (w : ℕ) → w < length words → ((v : ℕ) → v < w → get_or words v 0 ≡ 0) → 0 < get_or words w 0 → get_or words w 0 < 2 ^ 64
+    → First words (Some (64 * w + trailing_zeros w64 (get_or words w 0)))
+unfolding bit_at bit
+first-word words w h before some fits =
+    let t = trailing_zeros w64 (get_or words w 0) in
+    let z = bit_at-trailing_zeros w64 (get_or words w 0) some fits in
+    let small : t < 64 = z.0 in (
+      omega arith,
+      let here : (64 * w + t) / 64 ≡ w = omega arith in
+          let place : (64 * w + t) % 64 ≡ t = omega arith in
+          rw (here, place) z.1,
+      λ l k. ⊎_elim
+          (λ (b : l / 64 < w). empty-word words l (before (l / 64) b))
+          (λ (b : w ≤ l / 64).
+          let here : l / 64 ≡ w = omega arith in
+          rw here (z.2 (l % 64) (omega arith)))
+          (cases_lt (l / 64) w),
+    )
+
+pub no-first : (words : List ℕ) → ((v : ℕ) → v < length words → get_or words v 0 ≡ 0) → First words None
+no-first words none l h = empty-word words l (none (l / 64) (omega arith))

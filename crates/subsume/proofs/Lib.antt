@@ -1,7 +1,7 @@
 mod Flips
 mod Pruning
 mod Abreast
-mod Links
 mod Checked
 mod Picking
 mod Searching
+mod Links

@@ -7,4 +7,6 @@ mod link;
 mod meeting;
 mod prune;
 mod search;
+mod slot;
+mod table;
 mod view;

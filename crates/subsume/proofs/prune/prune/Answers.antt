@@ -4,4 +4,5 @@ use Rattle.subsume.proofs.prune.prune.Goals as goal
 
 pub loop-preserved : goal.loop-preserved
 loop-preserved g c =
-    pruned-then (elems c.args.table.now.slots) c.args.table.now.labels c.args.m c.args.n c.args.sets.now c.loop.sets c.revise_literal.new.sets c.loop.invariant c.revise_literal.ensures
+    let t = c.args.table.now in
+    pruned-then (elems t.slots) t.literals t.targets c.args.sets.now c.loop.sets c.revise_literal.new.sets c.loop.invariant c.revise_literal.ensures

@@ -1,46 +1,56 @@
-use Rattle.std.proofs.Common.{◌≡◌, ◌<◌, ◌≤◌, List, [], length, get_or, sym, ap, subst, arith}
+use Rattle.std.proofs.Common.{◌≡◌, ℕ, ◌<◌, List, length, sym, ap, ◌∙◌, subst, arith}
+use Rattle.std.proofs.lemmas.List.{length-set}
 use Rattle.bounded.specs.Elems.{elems}
-use Rattle.subsume.specs.declared.prune.Slot.{Slot}
-use Rattle.subsume.specs.Choices.{slot_at, Marked, Sifted, Pruned}
-use Rattle.subsume.proofs.Pruning.{sift-prunes}
+use Rattle.subsume.specs.declared.bits.BitSet.{BitSet}
+use Rattle.subsume.specs.declared.slot.Slot.{Slot}
+use Rattle.subsume.specs.Choices.{no_slot, slot_at, Pruned}
+use Rattle.subsume.proofs.Pruning.{item, row-read, sift-prunes}
 use Rattle.subsume.proofs.prune.revise.Goals as goal
 use Rattle.subsume.proofs.prune.revise.Goals.{then-other-slot+then-other-slot-2+then-sift, then-other-slot+then-other-slot-2+else-sift, else-other-slot}
 
-pub mark-marks-requires : goal.mark-marks-requires
-mark-marks-requires g c =
-    let same = c.as_slice-slots.ensures.value in
-    let own : (slot_at c.as_slice-slots.result.now c.args.s).literal < c.args.m = subst (λ (l : List Slot). (slot_at l c.args.s).literal < c.args.m) (sym same) (c.requires.owned c.args.s c.requires.slot) in
-    (omega (arith, c.requires.few.1), ((omega (arith, c.requires.inside.0), omega (arith, c.requires.inside.1)), c.requires.few))
+pub include-requires : goal.include-requires
+include-requires g c =
+    let t = c.args.table.now in
+    let same = c.as_slice-other-items.ensures.value in
+    let k = c.loop-other.other-index in
+    let here : k < length (elems t.slots) = omega (arith, ap length same) in
+    let is : slot_at (elems t.slots) k ≡ c.other-item.result = item c.as_slice-other-items.result.now (elems t.slots) k c.other-item.result (no_slot g.row.N) same (omega arith) c.other-item.is in
+    let own : c.other-item.result.literal < t.literals = subst (λ (z : Slot g.row.N). z.literal < t.literals) is (t.owned k here) in
+    (omega arith, omega (arith, t.few.0, t.few.2))
 
-pub sift-requires : goal.sift-requires
-sift-requires g c =
-    let same = c.as_slice-slots.ensures.value in
-    let here : c.loop-t.t < length (elems c.args.table.now.slots) = omega (arith, ap length same) in
-    let own : (slot_at c.as_slice-slots.result.now c.loop-t.t).literal < c.args.m = subst (λ (l : List Slot). (slot_at l c.loop-t.t).literal < c.args.m) (sym same) (c.requires.owned c.loop-t.t here) in
-    (omega (arith, c.requires.few.1), ((omega (arith, c.requires.inside.0), omega (arith, c.requires.inside.1)), c.requires.few))
+-- what lasts from turn to turn
+abbrev Kept : {N : ℕ} (slots : List (Slot N)) (m n : ℕ) (start sets : List (BitSet 4)) → Type 0
+Kept slots m n start sets = Pruned slots m n start sets × (length sets ≡ 256)
 
-pub loop-t-preserved : goal.loop-t-preserved
-loop-t-preserved g c =
+pub loop-other-preserved : goal.loop-other-preserved
+loop-other-preserved g c =
+    let t = c.args.table.now in
+    let slots = elems t.slots in
     let start = c.args.sets.now in
-    let slots = elems c.args.table.now.slots in
-    let labels = c.args.table.now.labels in
-    let same = c.as_slice-slots.ensures.value in
-    let s = c.args.s in
-    let t = c.loop-t.t in
-    let here : t < length slots = omega (arith, ap length same) in
-    let owned = c.requires.owned s c.requires.slot in
-    let marked = subst (λ (l : List Slot). Marked start (slot_at l s).literal (get_or labels s []) c.args.n c.mark-marks.result) same c.mark-marks.ensures in
-    let few : c.args.n ≤ 256 = omega (arith, c.requires.few.0, c.requires.few.1) in
+    let now = c.loop-other.sets in
+    let same = c.as_slice-other-items.ensures.value in
+    let k = c.loop-other.other-index in
+    let slot = c.args.slot.now in
+    let other = c.other-item.result in
+    let here : k < length slots = omega (arith, ap length same) in
+    let is : slot_at slots k ≡ other = item c.as_slice-other-items.result.now slots k other (no_slot g.row.N) same (omega arith) c.other-item.is in
+    let given = c.requires in
+    let owned : slot.literal < t.literals = subst (λ (z : Slot g.row.N). z.literal < t.literals) given.2 (t.owned given.0 given.1) in
+    let own : other.literal < t.literals = subst (λ (z : Slot g.row.N). z.literal < t.literals) is (t.owned k here) in
+    let inside : other.literal < length now = omega (arith, t.few.0, t.few.2, c.loop-other.invariant.1) in
+    let first = row-read start slot.literal c.index-sets-slot.result (omega (arith, t.few.0, t.few.2)) in
     elim c.if-other-slot.branch [
       | then-other-slot+then-other-slot-2+then-sift w ↦
-          let alike : (slot_at slots t).variable ≡ (slot_at slots s).variable = subst (λ (l : List Slot). (slot_at l t).variable ≡ (slot_at l s).variable) same w.if-other-slot.true in
-          let sifted = subst (λ (l : List Slot). Sifted c.loop-t.sets w.sift.new.sets (slot_at l t).literal (get_or labels t []) c.args.n c.mark-marks.result) same w.sift.ensures in
-          subst (Pruned slots labels c.args.m c.args.n start) (sym w.sets-is)
-          (sift-prunes slots labels c.args.m c.args.n few start c.loop-t.sets w.sift.new.sets s t c.mark-marks.result c.requires.slot here owned alike marked c.loop-t.invariant sifted)
+          subst (Kept slots t.literals t.targets start) (sym w.sets-is) (
+            sift-prunes slots t.literals t.targets start now slot other given.0 k given.1 given.2 here is owned inside w.if-other-slot.true
+                _ _ c.mark-marks.result.words w.sift.new.left first (row-read now other.literal w.index-sets-other.result inside) c.mark-marks.ensures c.loop-other.invariant.0 w.sift.ensures,
+            length-set now other.literal w.sift.new.left ∙ c.loop-other.invariant.1,
+          )
       | then-other-slot+then-other-slot-2+else-sift w ↦
-          let alike : (slot_at slots t).variable ≡ (slot_at slots s).variable = subst (λ (l : List Slot). (slot_at l t).variable ≡ (slot_at l s).variable) same w.if-other-slot.true in
-          let sifted = subst (λ (l : List Slot). Sifted c.loop-t.sets w.sift.new.sets (slot_at l t).literal (get_or labels t []) c.args.n c.mark-marks.result) same w.sift.ensures in
-          subst (Pruned slots labels c.args.m c.args.n start) (sym w.sets-is)
-          (sift-prunes slots labels c.args.m c.args.n few start c.loop-t.sets w.sift.new.sets s t c.mark-marks.result c.requires.slot here owned alike marked c.loop-t.invariant sifted)
-      | else-other-slot w ↦ subst (Pruned slots labels c.args.m c.args.n start) (sym w.sets-is) c.loop-t.invariant
+          subst (Kept slots t.literals t.targets start) (sym w.sets-is) (
+            sift-prunes slots t.literals t.targets start now slot other given.0 k given.1 given.2 here is owned inside w.if-other-slot.true
+                _ _ c.mark-marks.result.words w.sift.new.left first (row-read now other.literal w.index-sets-other.result inside) c.mark-marks.ensures c.loop-other.invariant.0 w.sift.ensures,
+            length-set now other.literal w.sift.new.left ∙ c.loop-other.invariant.1,
+          )
+      | else-other-slot w ↦ subst (Kept slots t.literals t.targets start) (sym w.sets-is) c.loop-other.invariant
     ]

@@ -1,6 +1,7 @@
+use Rattle.std.proofs.Common.{◌≡◌, length}
 use Rattle.bounded.specs.Elems.{elems}
 use Rattle.subsume.specs.Choices.{Pruned}
 use Rattle.subsume.proofs.prune.revise.Given as goal
 
-abbrev pub invariant-loop-t : goal.invariant-loop-t
-invariant-loop-t g l = Pruned (elems l.table.slots) l.table.labels l.m l.n l.initial.sets l.sets
+abbrev pub invariant-loop-other : goal.invariant-loop-other
+invariant-loop-other g l = Pruned (elems l.table.slots) l.table.literals l.table.targets l.initial.sets l.sets × (length l.sets ≡ 256)

@@ -3,15 +3,14 @@ use Rattle.bounded.specs.Elems.{elems}
 use Rattle.subsume.specs.Choices.{Pruned}
 use Rattle.subsume.proofs.Pruning.{pruned-then}
 use Rattle.subsume.proofs.prune.revise_literal.Goals as goal
-use Rattle.subsume.proofs.prune.revise_literal.Goals.{then-owner-i, else-owner-i}
+use Rattle.subsume.proofs.prune.revise_literal.Goals.{then-slot-i, else-slot-i}
 
-pub loop-s-preserved : goal.loop-s-preserved
-loop-s-preserved g c =
-    let slots = elems c.args.table.now.slots in
-    let labels = c.args.table.now.labels in
+pub loop-slot-preserved : goal.loop-slot-preserved
+loop-slot-preserved g c =
+    let t = c.args.table.now in
     let start = c.args.sets.now in
-    elim c.if-owner-i.branch [
-      | then-owner-i w ↦ subst (Pruned slots labels c.args.m c.args.n start) (sym w.sets-is)
-          (pruned-then slots labels c.args.m c.args.n start c.loop-s.sets w.revise.new.sets c.loop-s.invariant w.revise.ensures)
-      | else-owner-i w ↦ subst (Pruned slots labels c.args.m c.args.n start) (sym w.sets-is) c.loop-s.invariant
+    elim c.if-slot-i.branch [
+      | then-slot-i w ↦ subst (Pruned (elems t.slots) t.literals t.targets start) (sym w.sets-is)
+          (pruned-then (elems t.slots) t.literals t.targets start c.loop-slot.sets w.revise.new.sets c.loop-slot.invariant w.revise.ensures)
+      | else-slot-i w ↦ subst (Pruned (elems t.slots) t.literals t.targets start) (sym w.sets-is) c.loop-slot.invariant
     ]

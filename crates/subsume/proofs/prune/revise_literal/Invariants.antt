@@ -2,5 +2,5 @@ use Rattle.bounded.specs.Elems.{elems}
 use Rattle.subsume.specs.Choices.{Pruned}
 use Rattle.subsume.proofs.prune.revise_literal.Given as goal
 
-abbrev pub invariant-loop-s : goal.invariant-loop-s
-invariant-loop-s g l = Pruned (elems l.table.slots) l.table.labels l.m l.n l.initial.sets l.sets
+abbrev pub invariant-loop-slot : goal.invariant-loop-slot
+invariant-loop-slot g l = Pruned (elems l.table.slots) l.table.literals l.table.targets l.initial.sets l.sets

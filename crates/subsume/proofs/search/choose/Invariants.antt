@@ -2,4 +2,4 @@ use Rattle.subsume.proofs.Picking.{Choosing}
 use Rattle.subsume.proofs.search.choose.Given as goal
 
 abbrev pub invariant-loop-i : goal.invariant-loop-i
-invariant-loop-i g l = Choosing l.best l.fewest l.m l.n l.i l.picks
+invariant-loop-i g l = Choosing l.best l.table.literals l.i l.picks
