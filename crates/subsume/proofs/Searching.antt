@@ -22,17 +22,16 @@ module _ (N : List Node) (S : List ℕ) (M : List Node) (T : List ℕ) where
   unfolding Out
   out-more sets i j o n h l = ⊎_elim (λ (e : h.0 i ≡ j). n h e) (λ e. o h (omega (arith, e))) (cases_eq (h.0 i) j)
 
-module _ (N : List Node) (S : List ℕ) (M : List Node) (T : List ℕ) (m n : ℕ) (em : m ≡ length S) (en : n ≡ length T) where
   -- the literal i takes the target j, and what is struck out by that is not wanted
-  pub tried : {C : ℕ} (slots : List (Slot C)) (sets last : List (BitSet 4)) (i j : ℕ) → Linked N S M T slots → Taken slots m n sets i j last
+  pub tried : {C : ℕ} (slots : List (Slot C)) (sets last : List (BitSet 4)) (i j : ℕ) → Linked N S M T slots → Taken slots (length S) (length T) sets i j last
       → (h : Hopeful N S M T sets) → h.0 i ≡ j → Hopeful N S M T last
   tried slots sets last i j linked t h e =
       let next = t.mid in
       let f = h.0 in
       let θ = h.2.0 in
-      let narrow : Among next m n f = λ k inside.
-      let a = h.1 k (omega arith) in (
-        omega (arith, a.0),
+      let narrow : Among next (length S) (length T) f = λ k inside.
+      let a = h.1 k inside in (
+        a.0,
         ⊎_elim
             (λ (s : k ≡ i).
             let same : f k ≡ j = ap f s ∙ e in
@@ -45,25 +44,24 @@ module _ (N : List Node) (S : List ℕ) (M : List Node) (T : List ℕ) (m n : �
       let l = linked s inside in
       let k = (slot_at slots s).literal in
       l.1 (f k) (h.1 k l.0).0 θ (h.2.1 k l.0) in
-      let kept = t.pruned.keeps f v fits narrow in
-      (f, (λ k inside. let a = kept k (omega arith) in (omega (arith, a.0), a.1)), h.2)
+      (f, t.pruned.keeps f v fits narrow, h.2)
 
   -- all choices are made
-  pub decided : (sets : List (BitSet 4)) (picks : List (Option ℕ)) → Picked sets m n picks → ((i : ℕ) → i < m → pick picks i ≡ Some (picked picks i)) → (r : Bool) → Decides r (Works N S M T (picked picks))
+  pub decided : (sets : List (BitSet 4)) (picks : List (Option ℕ)) → Picked sets (length S) (length T) picks → ((i : ℕ) → i < length S → pick picks i ≡ Some (picked picks i)) → (r : Bool) → Decides r (Works N S M T (picked picks))
       → (r ≡ true → Solved N S M T) × (r ≡ false → Hopeful N S M T sets → ⊥)
   decided sets picks p made r d = (
-    λ e. (picked picks, (λ i inside. omega (arith, p.within i (omega arith) (picked picks i) (made i (omega arith)))), d.0 e),
+    λ e. (picked picks, (λ i inside. p.within i inside (picked picks i) (made i inside)), d.0 e),
     λ e h.
         let same : (i : ℕ) → i < length S → h.0 i ≡ picked picks i = λ i inside.
         let a = h.1 i inside in
-        p.alone i (omega arith) (picked picks i) (made i (omega arith)) (h.0 i) (omega (arith, a.0)) a.1 in
+        p.alone i inside (picked picks i) (made i inside) (h.0 i) a.0 a.1 in
         both_ways r e (d.1 (h.2.0, λ i inside. subst (TurnsAt N S M T h.2.0 i) (same i inside) (h.2.1 i inside))),
   )
 
-  pub out-all : (sets : List (BitSet 4)) (i j : ℕ) → i < m → n ≤ j → Out N S M T sets i j → Hopeful N S M T sets → ⊥
+  pub out-all : (sets : List (BitSet 4)) (i j : ℕ) → i < length S → length T ≤ j → Out sets i j → Hopeful N S M T sets → ⊥
   unfolding Out
-  out-all sets i j inside all o h = o h (omega (arith, (h.1 i (omega arith)).0))
+  out-all sets i j inside all o h = o h (omega (arith, (h.1 i inside).0))
 
   -- a target that is not left
-  pub gone : (sets : List (BitSet 4)) (i j : ℕ) → i < m → (left sets i j ≡ 1 → ⊥) → (h : Hopeful N S M T sets) → h.0 i ≡ j → ⊥
-  gone sets i j inside n h e = n (ap (left sets i) (sym e) ∙ (h.1 i (omega arith)).1)
+  pub gone : (sets : List (BitSet 4)) (i j : ℕ) → i < length S → (left sets i j ≡ 1 → ⊥) → (h : Hopeful N S M T sets) → h.0 i ≡ j → ⊥
+  gone sets i j inside n h e = n (ap (left sets i) (sym e) ∙ (h.1 i inside).1)

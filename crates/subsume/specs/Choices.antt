@@ -85,6 +85,10 @@ pick picks i = slice_index_or picks i None
 abbrev pub picked : List (Option ℕ) → (i : ℕ) → ℕ
 picked picks i = unwrap_or (pick picks i) 0
 
+-- each of m literals has its choice among n targets
+abbrev pub Made : List (Option ℕ) → (m n : ℕ) → Type 0
+Made picks m n = (i : ℕ) → i < m → (i < length picks) × (pick picks i ≡ Some (picked picks i)) × (picked picks i < n)
+
 -- how many of the choices are still to be made
 abbrev pub undone : List (Option ℕ) → ℕ
 undone [] = 0

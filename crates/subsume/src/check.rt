@@ -1,7 +1,7 @@
 // Whether one substitution turns each literal into the target that is chosen for it.
-ghost use Rattle.std.specs.Prelude.{◌≡◌, ℕ, ◌<◌, ◌≤◌, length, replicate, Some, None, Decides};
+ghost use Rattle.std.specs.Prelude.{◌≡◌, ◌≤◌, length, replicate, None, Decides};
 ghost use Rattle.term.specs.Matched.{Below};
-ghost use Rattle.subsume.specs.Choices.{pick, picked};
+ghost use Rattle.subsume.specs.Choices.{Made, picked};
 ghost use Rattle.subsume.specs.Solving.{Works};
 
 use super::view::View;
@@ -10,7 +10,7 @@ use term::match_word;
 // Matches the literals of `a` with their targets; V is more than the number of any variable.
 pub fn check<const V: usize>(a: View<'_>, b: View<'_>, picks: &[Option<u16>]) -> bool
     requires variables { Below V a.nodes.now × (V ≤ 65536) }
-    requires chosen { (i : ℕ) → i < length a.starts.now → (i < length picks.now) × (pick picks.now i ≡ Some (picked picks.now i)) × (picked picks.now i < length b.starts.now) }
+    requires chosen { Made picks.now (length a.starts.now) (length b.starts.now) }
     ensures { Decides result (Works a.entry.nodes.now a.entry.starts.now b.entry.nodes.now b.entry.starts.now (picked picks.now)) }
 {
     let mut bound: [Option<usize>; V] = [None; V];
@@ -21,7 +21,7 @@ pub fn check<const V: usize>(a: View<'_>, b: View<'_>, picks: &[Option<u16>]) ->
 fn check_each(a: View<'_>, b: View<'_>, picks: &[Option<u16>], bound: &mut [Option<usize>]) -> bool
     requires variables { Below (length bound.old) a.nodes.now }
     requires none { bound.old ≡ replicate (length bound.old) None }
-    requires chosen { (i : ℕ) → i < length a.starts.now → (i < length picks.now) × (pick picks.now i ≡ Some (picked picks.now i)) × (picked picks.now i < length b.starts.now) }
+    requires chosen { Made picks.now (length a.starts.now) (length b.starts.now) }
     ensures { Decides result (Works a.entry.nodes.now a.entry.starts.now b.entry.nodes.now b.entry.starts.now (picked picks.now)) }
 {
     for i in 0..a.len() {

@@ -1,5 +1,5 @@
 // The table of labels, and the candidates to begin with.
-ghost use Rattle.std.specs.Prelude.{◌≡◌, ℕ, ◌<◌, ◌≤◌, [], length, slice_index, slice_index_or};
+ghost use Rattle.std.specs.Prelude.{◌≡◌, ℕ, ◌<◌, ◌≤◌, length, slice_index, slice_index_or};
 ghost use Rattle.bounded.specs.Elems.{elems};
 ghost use Rattle.term.specs.Coding.{word_at};
 ghost use Rattle.term.specs.Matched.{Turns};
@@ -14,6 +14,7 @@ use super::meeting::{meet, met_label};
 use super::slot::Slot;
 use super::table::{Candidates, Table};
 use super::view::View;
+use bounded::Bounded;
 use term::{Node, WordAt};
 
 // For each target, the label of the word that it gives the node `p` of the literal `a`; 0 for what cannot be the target.
@@ -32,9 +33,9 @@ fn label_row<const N: usize>(a: WordAt<'_>, p: usize, b: View<'_>) -> [u16; N]
     row
 }
 
-// One slot more, for the variable `x` that stands at `p` in literal `i`. A table that is full stays as it is.
+// One slot more, for the variable `x` that stands at `p` in literal `i`; none where the list is full.
 fn add_slot<const N: usize, const K: usize>(
-    table: &mut Table<N, K>,
+    slots: &mut Bounded<Slot<N>, K>,
     a: View<'_>,
     i: usize,
     p: usize,
@@ -44,14 +45,13 @@ fn add_slot<const N: usize, const K: usize>(
     requires literal { i < length a.starts.now }
     requires inner { Inner a.nodes.now (slice_index a.starts.now i) p }
     requires node { slice_index_or a.nodes.now p (Variable 0) ≡ Variable x }
-    requires sizes { (table.old.literals ≡ length a.starts.now) × (table.old.targets ≡ length b.starts.now) }
-    requires linked { Linked a.nodes.now a.starts.now b.nodes.now b.starts.now (elems table.old.slots) }
-    ensures sizes { (table.new.literals ≡ length a.entry.starts.now) × (table.new.targets ≡ length b.entry.starts.now) }
-    ensures linked { Linked a.entry.nodes.now a.entry.starts.now b.entry.nodes.now b.entry.starts.now (elems table.new.slots) }
+    requires few { (length b.starts.now ≤ N) × (N ≤ 256) }
+    requires linked { Linked a.nodes.now a.starts.now b.nodes.now b.starts.now (elems slots.old) }
+    ensures { Linked a.entry.nodes.now a.entry.starts.now b.entry.nodes.now b.entry.starts.now (elems slots.new) }
 {
-    if table.slots.len() < K {
+    if slots.len() < K {
         let labels = label_row(a.literal(i), p, b);
-        let _ = table.slots.push(Slot {
+        let _ = slots.push(Slot {
             literal: i,
             variable: x,
             labels,
@@ -61,35 +61,43 @@ fn add_slot<const N: usize, const K: usize>(
 
 // Slots for all variables of literal `i`.
 fn add_slots<const N: usize, const K: usize>(
-    table: &mut Table<N, K>,
+    slots: &mut Bounded<Slot<N>, K>,
     a: View<'_>,
     i: usize,
     b: View<'_>,
 )
     requires literal { i < length a.starts.now }
-    requires sizes { (table.old.literals ≡ length a.starts.now) × (table.old.targets ≡ length b.starts.now) }
-    requires linked { Linked a.nodes.now a.starts.now b.nodes.now b.starts.now (elems table.old.slots) }
-    ensures sizes { (table.new.literals ≡ length a.entry.starts.now) × (table.new.targets ≡ length b.entry.starts.now) }
-    ensures linked { Linked a.entry.nodes.now a.entry.starts.now b.entry.nodes.now b.entry.starts.now (elems table.new.slots) }
+    requires few { (length b.starts.now ≤ N) × (N ≤ 256) }
+    requires linked { Linked a.nodes.now a.starts.now b.nodes.now b.starts.now (elems slots.old) }
+    ensures { Linked a.entry.nodes.now a.entry.starts.now b.entry.nodes.now b.entry.starts.now (elems slots.new) }
 {
     let literal = a.literal(i);
     let end = literal.end();
     for p in literal.start..end {
         if let Node::Variable(x) = a.nodes[p] {
-            add_slot(table, a, i, p, x, b);
+            add_slot(slots, a, i, p, x, b);
         }
     }
 }
 
-// Fills an empty table for the literals of `a` and the targets of `b`.
-pub fn link<const N: usize, const K: usize>(table: &mut Table<N, K>, a: View<'_>, b: View<'_>)
-    requires empty { elems table.old.slots ≡ [] }
-    requires sizes { (table.old.literals ≡ length a.starts.now) × (table.old.targets ≡ length b.starts.now) }
-    ensures sizes { (table.new.literals ≡ length a.entry.starts.now) × (table.new.targets ≡ length b.entry.starts.now) }
-    ensures linked { Linked a.entry.nodes.now a.entry.starts.now b.entry.nodes.now b.entry.starts.now (elems table.new.slots) }
+// The table for the literals of `a` and the targets of `b`.
+pub fn link<'a, const N: usize, const K: usize>(a: View<'a>, b: View<'a>) -> Table<'a, N, K>
+    requires { (length a.starts.now ≤ N) × (length b.starts.now ≤ N) × (N ≤ 256) }
+    ensures literals { (result.literals.nodes.now ≡ a.entry.nodes.now) × (result.literals.starts.now ≡ a.entry.starts.now) }
+    ensures targets { (result.targets.nodes.now ≡ b.entry.nodes.now) × (result.targets.starts.now ≡ b.entry.starts.now) }
 {
+    let mut slots = Bounded::new(Slot {
+        literal: 0,
+        variable: 0,
+        labels: [0; N],
+    });
     for i in 0..a.len() {
-        add_slots(table, a, i, b);
+        add_slots(&mut slots, a, i, b);
+    }
+    Table {
+        literals: a,
+        targets: b,
+        slots,
     }
 }
 

@@ -50,15 +50,15 @@ fn sift<const N: usize>(
 // Strikes out, in the other literals with the variable of this slot, the candidates that give it a label that no candidate
 // of its own literal gives. Literals that lose a candidate come into the queue.
 fn revise<const N: usize, const K: usize>(
-    table: &Table<N, K>,
+    table: &Table<'_, N, K>,
     slot: &Slot<N>,
     sets: &mut Candidates,
     queue: &mut BitSet<4>,
 )
     requires { (s : ℕ) × (s < length (elems table.now.slots)) × (slot_at (elems table.now.slots) s ≡ slot.now) }
-    ensures { Pruned (elems table.now.slots) table.now.literals table.now.targets sets.old sets.new }
+    ensures { Pruned (elems table.now.slots) (length table.now.literals.starts.now) (length table.now.targets.starts.now) sets.old sets.new }
 {
-    let n = table.targets;
+    let n = table.targets.len();
     let marks = mark(&sets[slot.literal], &slot.labels, n);
     for other in table.slots.as_slice() {
         if other.variable == slot.variable && other.literal != slot.literal {
@@ -71,12 +71,12 @@ fn revise<const N: usize, const K: usize>(
 
 // Strikes out what disagrees with literal `i`.
 fn revise_literal<const N: usize, const K: usize>(
-    table: &Table<N, K>,
+    table: &Table<'_, N, K>,
     i: usize,
     sets: &mut Candidates,
     queue: &mut BitSet<4>,
 )
-    ensures { Pruned (elems table.now.slots) table.now.literals table.now.targets sets.old sets.new }
+    ensures { Pruned (elems table.now.slots) (length table.now.literals.starts.now) (length table.now.targets.starts.now) sets.old sets.new }
 {
     for slot in table.slots.as_slice() {
         if slot.literal == i {
@@ -87,11 +87,11 @@ fn revise_literal<const N: usize, const K: usize>(
 
 // Strikes out candidates until no two literals disagree, beginning at the literals in the queue.
 pub fn prune<const N: usize, const K: usize>(
-    table: &Table<N, K>,
+    table: &Table<'_, N, K>,
     sets: &mut Candidates,
     mut queue: BitSet<4>,
 )
-    ensures { Pruned (elems table.now.slots) table.now.literals table.now.targets sets.old sets.new }
+    ensures { Pruned (elems table.now.slots) (length table.now.literals.starts.now) (length table.now.targets.starts.now) sets.old sets.new }
 {
     for _ in 0..ROUNDS {
         let Some(i) = queue.pop() else {

@@ -3,13 +3,12 @@ ghost use Rattle.std.specs.Prelude.{◌≡◌, ◌<◌, ◌≤◌, true, false, 
 ghost use Rattle.bounded.specs.Elems.{elems};
 ghost use Rattle.term.specs.Matched.{Below};
 ghost use Rattle.subsume.specs.Choices.{Settled, Narrowed, Taken, Chosen, Picked, undone};
-ghost use Rattle.subsume.specs.Solving.{Linked, Solved, Hopeful};
+ghost use Rattle.subsume.specs.Solving.{Solved, Hopeful};
 
 use super::bits::BitSet;
 use super::check::check;
 use super::prune::prune;
 use super::table::{Candidates, Table};
-use super::view::View;
 
 // Leaves, of the first `n` targets, only `j`.
 fn narrow(left: &mut BitSet<4>, j: usize, n: usize)
@@ -27,24 +26,21 @@ fn narrow(left: &mut BitSet<4>, j: usize, n: usize)
 fn settled(left: &BitSet<4>, n: usize) -> Option<usize>
     ensures { Settled result left.now.words n }
 {
-    match left.only() {
-        Some(j) if j < n => Some(j),
-        _ => None,
-    }
+    left.only().filter(|j| *j < n)
 }
 
 // Makes the choices for which one target is left.
 fn settle<const N: usize, const K: usize>(
-    table: &Table<N, K>,
+    table: &Table<'_, N, K>,
     sets: &Candidates,
     picks: &mut [Option<u16>; N],
 )
-    requires picked { Picked sets.now table.now.literals table.now.targets picks.old × (length picks.old ≡ N) }
-    ensures picked { Picked sets.now table.now.literals table.now.targets picks.new × (length picks.new ≡ N) }
+    requires picked { Picked sets.now (length table.now.literals.starts.now) (length table.now.targets.starts.now) picks.old × (length picks.old ≡ N) }
+    ensures picked { Picked sets.now (length table.now.literals.starts.now) (length table.now.targets.starts.now) picks.new × (length picks.new ≡ N) }
     ensures fewer { undone picks.new ≤ undone picks.old }
 {
-    for i in 0..table.literals {
-        if let Some(j) = settled(&sets[i], table.targets) {
+    for i in 0..table.literals.len() {
+        if let Some(j) = settled(&sets[i], table.targets.len()) {
             picks[i] = Some(j as u16);
         }
     }
@@ -52,14 +48,14 @@ fn settle<const N: usize, const K: usize>(
 
 // The literal with the fewest targets left, of those whose choice is still to be made.
 fn choose<const N: usize, const K: usize>(
-    table: &Table<N, K>,
+    table: &Table<'_, N, K>,
     sets: &Candidates,
     picks: &[Option<u16>; N],
 ) -> Option<usize>
-    ensures { Chosen result table.now.literals picks.now }
+    ensures { Chosen result (length table.now.literals.starts.now) picks.now }
 {
     let mut best: Option<(usize, u32)> = None;
-    for i in 0..table.literals {
+    for i in 0..table.literals.len() {
         if picks[i].is_none() {
             let count = sets[i].count();
             if best.is_none_or(|(_, fewest)| count < fewest) {
@@ -73,30 +69,26 @@ fn choose<const N: usize, const K: usize>(
 
 // Whether some choice works. Where it says no, none works whose targets are left.
 pub fn search<const N: usize, const K: usize, const V: usize>(
-    a: View<'_>,
-    b: View<'_>,
-    table: &Table<N, K>,
+    table: &Table<'_, N, K>,
     sets: &Candidates,
     picks: &[Option<u16>; N],
 ) -> bool
-    requires variables { Below V a.nodes.now × (V ≤ 65536) }
-    requires sizes { (table.now.literals ≡ length a.starts.now) × (table.now.targets ≡ length b.starts.now) }
-    requires linked { Linked a.nodes.now a.starts.now b.nodes.now b.starts.now (elems table.now.slots) }
-    requires picked { Picked sets.now table.now.literals table.now.targets picks.now × (length picks.now ≡ N) }
-    ensures found { result ≡ true → Solved a.entry.nodes.now a.entry.starts.now b.entry.nodes.now b.entry.starts.now }
-    ensures none { result ≡ false → Hopeful a.entry.nodes.now a.entry.starts.now b.entry.nodes.now b.entry.starts.now sets.now → ⊥ }
+    requires variables { Below V table.now.literals.nodes.now × (V ≤ 65536) }
+    requires picked { Picked sets.now (length table.now.literals.starts.now) (length table.now.targets.starts.now) picks.now × (length picks.now ≡ N) }
+    ensures found { result ≡ true → Solved table.now.literals.nodes.now table.now.literals.starts.now table.now.targets.nodes.now table.now.targets.starts.now }
+    ensures none { result ≡ false → Hopeful table.now.literals.nodes.now table.now.literals.starts.now table.now.targets.nodes.now table.now.targets.starts.now sets.now → ⊥ }
 {
     let mut made = *picks;
     settle(table, sets, &mut made);
     let Some(i) = choose(table, sets, &made) else {
-        return check::<V>(a, b, &made);
+        return check::<V>(table.literals, table.targets, &made);
     };
-    for j in 0..table.targets {
+    for j in 0..table.targets.len() {
         if sets[i].test(j) {
             let next = take(table, sets, i, j);
             let mut more = made;
             more[i] = Some(j as u16);
-            if search::<N, K, V>(a, b, table, &next, &more) {
+            if search::<N, K, V>(table, &next, &more) {
                 return true;
             }
         }
@@ -106,16 +98,16 @@ pub fn search<const N: usize, const K: usize, const V: usize>(
 
 // What is left once literal `i` takes the target `j`.
 fn take<const N: usize, const K: usize>(
-    table: &Table<N, K>,
+    table: &Table<'_, N, K>,
     sets: &Candidates,
     i: usize,
     j: usize,
 ) -> Candidates
-    requires { i < table.now.literals }
-    ensures { Taken (elems table.now.slots) table.now.literals table.now.targets sets.now i j result }
+    requires { i < length table.now.literals.starts.now }
+    ensures { Taken (elems table.now.slots) (length table.now.literals.starts.now) (length table.now.targets.starts.now) sets.now i j result }
 {
     let mut next = *sets;
-    narrow(&mut next[i], j, table.targets);
+    narrow(&mut next[i], j, table.targets.len());
     let mut queue = BitSet::<4>::new();
     queue.include(i);
     prune(table, &mut next, queue);

@@ -1,20 +1,22 @@
 // What is known of literals and targets before a choice is made: the table of labels, and the candidates.
-ghost use Rattle.std.specs.Prelude.{ℕ, ◌≤◌};
+ghost use Rattle.std.specs.Prelude.{◌≤◌, length};
 ghost use Rattle.bounded.specs.Elems.{elems};
-ghost use Rattle.subsume.specs.Choices.{Owned};
+ghost use Rattle.subsume.specs.Solving.{Linked};
 
 use super::bits::BitSet;
 use super::slot::Slot;
+use super::view::View;
 use bounded::Bounded;
 
 // For each literal, the targets that are left for it.
 pub type Candidates = [BitSet<4>; 256];
 
-// The slots of so many literals, for so many targets.
-pub struct Table<const N: usize, const K: usize> {
+// The literals of one clause, those of another as their targets, and slots for variables of the first: as many as there
+// is room for.
+pub struct Table<'a, const N: usize, const K: usize> {
+    pub literals: View<'a>,
+    pub targets: View<'a>,
     pub slots: Bounded<Slot<N>, K>,
-    pub literals: usize,
-    pub targets: usize,
-    ghost few: { (literals ≤ N) × (targets ≤ N) × (N ≤ 256) },
-    ghost owned: { Owned (elems slots) literals },
+    ghost few: { (length literals.starts.now ≤ N) × (length targets.starts.now ≤ N) × (N ≤ 256) },
+    ghost linked: { Linked literals.nodes.now literals.starts.now targets.nodes.now targets.starts.now (elems slots) },
 }

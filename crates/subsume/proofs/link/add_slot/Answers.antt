@@ -8,11 +8,11 @@ use Rattle.subsume.specs.Solving.{Linked}
 use Rattle.subsume.proofs.Links.{variable-at, linked-more}
 use Rattle.subsume.proofs.link.add_slot.Goals as goal
 
-pub returns-then-len-clause-linked : goal.returns-then-len-clause-linked
-returns-then-len-clause-linked g c =
+pub returns-then-len : goal.returns-then-len
+returns-then-len g c =
     let a = c.args.a in
     let b = c.args.b in
-    let slots = elems c.args.table.now.slots in
+    let slots = elems c.args.slots.now in
     let inner = c.requires.inner in
     let is = variable-at a.nodes.now c.args.p c.args.x (omega (arith, inner.3, inner.1.within)) c.requires.node in
     let room : length slots < g.row.K = omega (arith, c.len.ensures.value) in

@@ -1,10 +1,6 @@
-use Rattle.std.proofs.Common.{◌≡◌, length}
 use Rattle.bounded.specs.Elems.{elems}
 use Rattle.subsume.specs.Solving.{Linked}
 use Rattle.subsume.proofs.link.link.Given as goal
 
 abbrev pub invariant-loop-i : goal.invariant-loop-i
-invariant-loop-i g l =
-    Linked l.a.nodes.now l.a.starts.now l.b.nodes.now l.b.starts.now (elems l.table.slots)
-    × (l.table.literals ≡ length l.a.starts.now)
-    × (l.table.targets ≡ length l.b.starts.now)
+invariant-loop-i g l = Linked l.a.nodes.now l.a.starts.now l.b.nodes.now l.b.starts.now (elems l.slots)

@@ -1,3 +1,4 @@
+use Rattle.std.proofs.Common.{length}
 use Rattle.bounded.specs.Elems.{elems}
 use Rattle.subsume.proofs.Pruning.{pruned-then}
 use Rattle.subsume.proofs.prune.prune.Goals as goal
@@ -5,4 +6,4 @@ use Rattle.subsume.proofs.prune.prune.Goals as goal
 pub loop-preserved : goal.loop-preserved
 loop-preserved g c =
     let t = c.args.table.now in
-    pruned-then (elems t.slots) t.literals t.targets c.args.sets.now c.loop.sets c.revise_literal.new.sets c.loop.invariant c.revise_literal.ensures
+    pruned-then (elems t.slots) (length t.literals.starts.now) (length t.targets.starts.now) c.args.sets.now c.loop.sets c.revise_literal.new.sets c.loop.invariant c.revise_literal.ensures

@@ -15,7 +15,7 @@ include-requires g c =
     let k = c.loop-other.other-index in
     let here : k < length (elems t.slots) = omega (arith, ap length same) in
     let is : slot_at (elems t.slots) k ≡ c.other-item.result = item c.as_slice-other-items.result.now (elems t.slots) k c.other-item.result (no_slot g.row.N) same (omega arith) c.other-item.is in
-    let own : c.other-item.result.literal < t.literals = subst (λ (z : Slot g.row.N). z.literal < t.literals) is (t.owned k here) in
+    let own : c.other-item.result.literal < length t.literals.starts.now = subst (λ (z : Slot g.row.N). z.literal < length t.literals.starts.now) is (t.linked k here).0 in
     (omega arith, omega (arith, t.few.0, t.few.2))
 
 -- what lasts from turn to turn
@@ -35,22 +35,22 @@ loop-other-preserved g c =
     let here : k < length slots = omega (arith, ap length same) in
     let is : slot_at slots k ≡ other = item c.as_slice-other-items.result.now slots k other (no_slot g.row.N) same (omega arith) c.other-item.is in
     let given = c.requires in
-    let owned : slot.literal < t.literals = subst (λ (z : Slot g.row.N). z.literal < t.literals) given.2 (t.owned given.0 given.1) in
-    let own : other.literal < t.literals = subst (λ (z : Slot g.row.N). z.literal < t.literals) is (t.owned k here) in
+    let owned : slot.literal < length t.literals.starts.now = subst (λ (z : Slot g.row.N). z.literal < length t.literals.starts.now) given.2 ((t.linked given.0 given.1).0) in
+    let own : other.literal < length t.literals.starts.now = subst (λ (z : Slot g.row.N). z.literal < length t.literals.starts.now) is (t.linked k here).0 in
     let inside : other.literal < length now = omega (arith, t.few.0, t.few.2, c.loop-other.invariant.1) in
     let first = row-read start slot.literal c.index-sets-slot.result (omega (arith, t.few.0, t.few.2)) in
     elim c.if-other-slot.branch [
       | then-other-slot+then-other-slot-2+then-sift w ↦
-          subst (Kept slots t.literals t.targets start) (sym w.sets-is) (
-            sift-prunes slots t.literals t.targets start now slot other given.0 k given.1 given.2 here is owned inside w.if-other-slot.true
-                _ _ c.mark-marks.result.words w.sift.new.left first (row-read now other.literal w.index-sets-other.result inside) c.mark-marks.ensures c.loop-other.invariant.0 w.sift.ensures,
+          subst (Kept slots (length t.literals.starts.now) (length t.targets.starts.now) start) (sym w.sets-is) (
+            sift-prunes slots (length t.literals.starts.now) (length t.targets.starts.now) start now slot other given.0 k given.1 given.2 here is owned inside w.if-other-slot.true
+                _ _ c.mark-marks.result.words w.sift.new.left first (row-read now other.literal w.index-sets-other.result inside) (rw c.len-n.ensures at c.mark-marks.ensures) c.loop-other.invariant.0 (rw c.len-n.ensures at w.sift.ensures),
             length-set now other.literal w.sift.new.left ∙ c.loop-other.invariant.1,
           )
       | then-other-slot+then-other-slot-2+else-sift w ↦
-          subst (Kept slots t.literals t.targets start) (sym w.sets-is) (
-            sift-prunes slots t.literals t.targets start now slot other given.0 k given.1 given.2 here is owned inside w.if-other-slot.true
-                _ _ c.mark-marks.result.words w.sift.new.left first (row-read now other.literal w.index-sets-other.result inside) c.mark-marks.ensures c.loop-other.invariant.0 w.sift.ensures,
+          subst (Kept slots (length t.literals.starts.now) (length t.targets.starts.now) start) (sym w.sets-is) (
+            sift-prunes slots (length t.literals.starts.now) (length t.targets.starts.now) start now slot other given.0 k given.1 given.2 here is owned inside w.if-other-slot.true
+                _ _ c.mark-marks.result.words w.sift.new.left first (row-read now other.literal w.index-sets-other.result inside) (rw c.len-n.ensures at c.mark-marks.ensures) c.loop-other.invariant.0 (rw c.len-n.ensures at w.sift.ensures),
             length-set now other.literal w.sift.new.left ∙ c.loop-other.invariant.1,
           )
-      | else-other-slot w ↦ subst (Kept slots t.literals t.targets start) (sym w.sets-is) c.loop-other.invariant
+      | else-other-slot w ↦ subst (Kept slots (length t.literals.starts.now) (length t.targets.starts.now) start) (sym w.sets-is) c.loop-other.invariant
     ]

@@ -1,4 +1,4 @@
-use Rattle.std.proofs.Common.{sym, subst}
+use Rattle.std.proofs.Common.{length, sym, subst}
 use Rattle.bounded.specs.Elems.{elems}
 use Rattle.subsume.specs.Choices.{Pruned}
 use Rattle.subsume.proofs.Pruning.{pruned-then}
@@ -10,7 +10,7 @@ loop-slot-preserved g c =
     let t = c.args.table.now in
     let start = c.args.sets.now in
     elim c.if-slot-i.branch [
-      | then-slot-i w ↦ subst (Pruned (elems t.slots) t.literals t.targets start) (sym w.sets-is)
-          (pruned-then (elems t.slots) t.literals t.targets start c.loop-slot.sets w.revise.new.sets c.loop-slot.invariant w.revise.ensures)
-      | else-slot-i w ↦ subst (Pruned (elems t.slots) t.literals t.targets start) (sym w.sets-is) c.loop-slot.invariant
+      | then-slot-i w ↦ subst (Pruned (elems t.slots) (length t.literals.starts.now) (length t.targets.starts.now) start) (sym w.sets-is)
+          (pruned-then (elems t.slots) (length t.literals.starts.now) (length t.targets.starts.now) start c.loop-slot.sets w.revise.new.sets c.loop-slot.invariant w.revise.ensures)
+      | else-slot-i w ↦ subst (Pruned (elems t.slots) (length t.literals.starts.now) (length t.targets.starts.now) start) (sym w.sets-is) c.loop-slot.invariant
     ]

@@ -11,10 +11,10 @@ use Rattle.subsume.proofs.search.+search.Goals.{then-test+else-search, else-test
 
 pub returns-in_default : goal.returns-in_default
 returns-in_default g t c =
-    let a = c.args.a in
-    let b = c.args.b in
     let z = c.args.table.now in
-    let d = decided a.nodes.now a.starts.now b.nodes.now b.starts.now z.literals z.targets c.requires.sizes.0 c.requires.sizes.1 c.args.sets.now c.settle.new.picks c.settle.ensures.picked.0 c.in_default.ensures c.check.result c.check.ensures in
+    let a = z.literals in
+    let b = z.targets in
+    let d = decided a.nodes.now a.starts.now b.nodes.now b.starts.now c.args.sets.now c.settle.new.picks c.settle.ensures.picked.0 c.in_default.ensures c.check.result c.check.ensures in
     record { found = d.0; none = d.1 }
 
 pub loop-j-init : goal.loop-j-init
@@ -24,19 +24,19 @@ loop-j-init g t c =
     let i = c.in-Some.i in
     let inside : i < length made = omega (arith, c.in-Some.ensures.0, z.few.0, c.settle.ensures.picked.1) in
     record {
-      out = out_none c.args.a.nodes.now c.args.a.starts.now c.args.b.nodes.now c.args.b.starts.now c.args.sets.now i;
-      picked = λ next h taken. picked-taken z.literals z.targets (elems z.slots) c.args.sets.now next made i 0 inside h c.settle.ensures.picked.0 taken;
+      out = out_none z.literals.nodes.now z.literals.starts.now z.targets.nodes.now z.targets.starts.now c.args.sets.now i;
+      picked = λ next h taken. picked-taken (length z.literals.starts.now) (length z.targets.starts.now) (elems z.slots) c.args.sets.now next made i 0 inside h c.settle.ensures.picked.0 taken;
       long = length-set made i (Some 0) ∙ c.settle.ensures.picked.1;
       falls = omega (arith, undone-less made i 0 inside c.in-Some.ensures.1, c.settle.ensures.fewer);
     }
 
 pub loop-j-preserved : goal.loop-j-preserved
 loop-j-preserved g t c =
-    let N = c.args.a.nodes.now in
-    let S = c.args.a.starts.now in
-    let M = c.args.b.nodes.now in
-    let T = c.args.b.starts.now in
     let z = c.args.table.now in
+    let N = z.literals.nodes.now in
+    let S = z.literals.starts.now in
+    let M = z.targets.nodes.now in
+    let T = z.targets.starts.now in
     let sets = c.args.sets.now in
     let i = c.in-Some.i in
     let j = c.loop-j.j in
@@ -49,12 +49,12 @@ loop-j-preserved g t c =
           (elim c.if-test.branch [
             | then-test+else-search w ↦ λ h e.
                 w.search.ensures.none w.if-search.false
-                (tried N S M T z.literals z.targets c.requires.sizes.0 c.requires.sizes.1 (elems z.slots) sets w.take-next.result i j c.requires.linked w.take-next.ensures h e)
+                (tried N S M T (elems z.slots) sets w.take-next.result i j z.linked w.take-next.ensures h e)
             | else-test w ↦
-                gone N S M T z.literals z.targets c.requires.sizes.0 c.requires.sizes.1 sets i j c.in-Some.ensures.0
+                gone N S M T sets i j c.in-Some.ensures.0
                 (λ x. both_ways _ w.if-test.false (c.test.ensures.1 (sym (ap (λ ws. bit_at ws j) row) ∙ x)))
           ]);
-      picked = λ next h taken. picked-taken z.literals z.targets (elems z.slots) sets next made i (j + 1) chosen h c.settle.ensures.picked.0 taken;
+      picked = λ next h taken. picked-taken (length z.literals.starts.now) (length z.targets.starts.now) (elems z.slots) sets next made i (j + 1) chosen h c.settle.ensures.picked.0 taken;
       long = length-set made i (Some (j + 1)) ∙ c.settle.ensures.picked.1;
       falls = omega (arith, undone-less made i (j + 1) chosen c.in-Some.ensures.1, c.settle.ensures.fewer);
     }
@@ -64,5 +64,5 @@ returns g t c =
     let z = c.args.table.now in
     record {
       found = λ e. absurd (false≢true e);
-      none = λ _ h. out-all c.args.a.nodes.now c.args.a.starts.now c.args.b.nodes.now c.args.b.starts.now z.literals z.targets c.requires.sizes.0 c.requires.sizes.1 c.args.sets.now c.in-Some.i c.loop-j.j c.in-Some.ensures.0 (omega arith) c.loop-j.invariant.out h;
+      none = λ _ h. out-all z.literals.nodes.now z.literals.starts.now z.targets.nodes.now z.targets.starts.now c.args.sets.now c.in-Some.i c.loop-j.j c.in-Some.ensures.0 (omega arith) c.loop-j.invariant.out h;
     }

@@ -12,8 +12,8 @@ decreases-search g l = undone l.picks.now
 -- what was tried without success, and what the next try requires
 abbrev pub invariant-loop-j : goal.invariant-loop-j
 invariant-loop-j g l = record {
-  out : Out l.a.nodes.now l.a.starts.now l.b.nodes.now l.b.starts.now l.sets l.i l.j;
-  picked : (next : List (BitSet 4)) → l.j < l.table.targets → Taken (elems l.table.slots) l.table.literals l.table.targets l.sets l.i l.j next → Picked next l.table.literals l.table.targets (set l.made l.i (Some l.j));
+  out : Out l.table.literals.nodes.now l.table.literals.starts.now l.table.targets.nodes.now l.table.targets.starts.now l.sets l.i l.j;
+  picked : (next : List (BitSet 4)) → l.j < length l.table.targets.starts.now → Taken (elems l.table.slots) (length l.table.literals.starts.now) (length l.table.targets.starts.now) l.sets l.i l.j next → Picked next (length l.table.literals.starts.now) (length l.table.targets.starts.now) (set l.made l.i (Some l.j));
   long : length (set l.made l.i (Some l.j)) ≡ g.row.N;
   falls : undone (set l.made l.i (Some l.j)) < undone l.picks;
 }

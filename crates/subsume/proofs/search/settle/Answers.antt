@@ -24,10 +24,10 @@ loop-i-preserved g c =
           let j = w.in-Some.j in
           let told = w.in-Some.ensures in
           let row = row-read sets i c.index-sets-i.result (omega (arith, t.few.0, t.few.2)) in
-          subst (Kept sets t.literals t.targets g.row.N c.args.picks.now) (sym w.picks-is) (
-            picked-set t.literals t.targets sets old i j (omega (arith, inv.1, t.few.0)) told.0 inv.0 (λ k h e. told.1 k (omega (arith, t.few.1, t.few.2)) (sym (ap (λ (ws : List ℕ). bit_at ws k) row) ∙ e)),
+          subst (Kept sets (length t.literals.starts.now) (length t.targets.starts.now) g.row.N c.args.picks.now) (sym w.picks-is) (
+            picked-set (length t.literals.starts.now) (length t.targets.starts.now) sets old i j (omega (arith, inv.1, t.few.0)) (omega (arith, told.0)) inv.0 (λ k h e. told.1 k (omega (arith, t.few.1, t.few.2)) (sym (ap (λ (ws : List ℕ). bit_at ws k) row) ∙ e)),
             length-set old i (Some j) ∙ inv.1,
             omega (arith, inv.2, undone-set old i j),
           )
-      | in_default w ↦ subst (Kept sets t.literals t.targets g.row.N c.args.picks.now) (sym w.picks-is) inv
+      | in_default w ↦ subst (Kept sets (length t.literals.starts.now) (length t.targets.starts.now) g.row.N c.args.picks.now) (sym w.picks-is) inv
     ]
