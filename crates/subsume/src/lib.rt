@@ -8,5 +8,6 @@ mod meeting;
 mod prune;
 mod search;
 mod slot;
+mod state;
 mod table;
 mod view;

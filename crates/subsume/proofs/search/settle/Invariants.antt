@@ -3,4 +3,8 @@ use Rattle.subsume.specs.Choices.{Picked, undone}
 use Rattle.subsume.proofs.search.settle.Given as goal
 
 abbrev pub invariant-loop-i : goal.invariant-loop-i
-invariant-loop-i g l = Picked l.sets (length l.table.literals.starts.now) (length l.table.targets.starts.now) l.picks × (length l.picks ≡ g.row.N) × (undone l.picks ≤ undone l.initial.picks)
+invariant-loop-i g l = record {
+  picked : Picked l.state.sets (length l.table.literals.starts.now) (length l.table.targets.starts.now) l.state.picks;
+  fewer : undone l.state.picks ≤ undone l.initial.state.picks;
+  same : l.state.sets ≡ l.initial.state.sets;
+}

@@ -1,0 +1,19 @@
+// Where the search stands: the targets that are left for each literal, and the choices that are made.
+ghost use Rattle.std.specs.Prelude.{◌≡◌, length};
+
+use super::table::Candidates;
+use std::alloc::AllocError;
+
+#[derive(Copy)]
+pub struct State<const N: usize> {
+    pub sets: Candidates,
+    pub picks: [Option<u16>; N],
+    ghost rows: { length sets ≡ 256 },
+    ghost sized: { length picks ≡ N },
+}
+
+impl<const N: usize> Clone for State<N> {
+    fn clone(&self) -> Result<State<N>, AllocError> {
+        Ok(*self)
+    }
+}
