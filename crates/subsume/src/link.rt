@@ -17,7 +17,8 @@ use bounded::Bounded;
 use term::{Node, WordAt};
 
 impl<'a, const N: usize, const K: usize> Table<'a, N, K> {
-    // For each target, the label of the word that it gives the node `p` of a literal; 0 for what cannot be the target.
+    // For each target, the label of the word that it gives the node `p` of a literal; 0, for which nothing asks, where it
+    // cannot be the target.
     fn label_row(&self, literal: WordAt<'_>, p: usize) -> [u16; N]
         requires { Inner literal.nodes.now literal.start p }
         ensures labels { (j : ℕ) → j < length self.now.targets.starts.now → (θ : ℕ → Word) → Turns literal.entry.nodes.now literal.entry.start self.now.targets.nodes.now (slice_index self.now.targets.starts.now j) θ → slice_index result j ≡ label_of (sub θ (word_at literal.entry.nodes.now p)) }
@@ -82,6 +83,17 @@ impl<'a, const N: usize, const K: usize> Table<'a, N, K> {
         }
         table
     }
+
+    // For each literal every target that it meets without a clash of symbols.
+    pub fn candidates(&self) -> Candidates
+        ensures { Open self.now.literals.nodes.now self.now.literals.starts.now self.now.targets.nodes.now self.now.targets.starts.now result (length self.now.literals.starts.now) }
+    {
+        let mut sets = [BitSet::<4>::new(); 256];
+        for i in 0..self.literals.len() {
+            open_row(&mut sets[i], self.literals.literal(i), self.targets);
+        }
+        sets
+    }
 }
 
 // Leaves for the literal `a` every target that it meets without a clash of symbols.
@@ -95,15 +107,5 @@ fn open_row(left: &mut BitSet<4>, a: WordAt<'_>, b: View<'_>)
         if meet(a, end, b.literal(j)).is_some() {
             left.include(j);
         }
-    }
-}
-
-// Leaves for each literal of `a` every target of `b` that it meets without a clash of symbols.
-pub fn open_rows(sets: &mut Candidates, a: View<'_>, b: View<'_>)
-    requires { (length a.starts.now ≤ 256) × (length b.starts.now ≤ 256) }
-    ensures { Open a.entry.nodes.now a.entry.starts.now b.entry.nodes.now b.entry.starts.now sets.new (length a.entry.starts.now) }
-{
-    for i in 0..a.len() {
-        open_row(&mut sets[i], a.literal(i), b);
     }
 }

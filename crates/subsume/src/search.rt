@@ -60,8 +60,7 @@ fn choose<const N: usize, const K: usize>(
             }
         }
     }
-    let (i, _) = best?;
-    Some(i)
+    best.map(|(i, _)| i)
 }
 
 // Whether some choice works. Where it says no, none works whose targets are left.

@@ -1,4 +1,4 @@
-use Rattle.std.proofs.Common.{ℕ, ◌<◌, List, length, sym, ap, ◌∙◌, subst, arith}
+use Rattle.std.proofs.Common.{◌<◌, List, length, sym, ap, ◌∙◌, subst, arith}
 use Rattle.bounded.specs.Elems.{elems}
 use Rattle.bounded.proofs.Rooms.{pushed_room}
 use Rattle.term.specs.Words.{sub}
