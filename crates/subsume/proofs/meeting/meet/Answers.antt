@@ -15,14 +15,14 @@ loop-node-init c =
     let a = c.args.a in
     let b = c.args.b in
     subst (λ (at : ℕ). Abreast a.nodes.now b.nodes.now a.start b.start at b.start) (sym (add-zero a.start))
-    (abreast-first a.nodes.now b.nodes.now a.whole b.whole a.start b.start a.inside b.inside)
+    (abreast-first a b)
 
 pub at-requires : goal.at-requires
 at-requires c =
     let a = c.args.a in
     let b = c.args.b in
     let along = c.requires in
-    (inside a.nodes.now b.nodes.now a.whole b.whole a.start b.start a.inside b.inside (a.start + c.loop-node.node-index) c.loop-node.q c.loop-node.invariant along.0 along.1 (omega (arith, along.3))).1
+    (inside a b (a.start + c.loop-node.node-index) c.loop-node.q c.loop-node.invariant along.0 along.1 (omega (arith, along.3))).1
 
 pub returns-in_err-q : goal.returns-in_err-q
 returns-in_err-q c =
@@ -32,7 +32,7 @@ returns-in_err-q c =
     let k = c.loop-node.node-index in
     let step = rw (c.at.ensures.nodes, c.at.ensures.start) at c.in_err-q.ensures in
     subst (Met a.nodes.now a.start c.args.p b.nodes.now b.start) (sym c.from_residual.ensures)
-    (abreast-never a.nodes.now b.nodes.now a.whole b.whole a.start b.start a.inside b.inside (a.start + k) c.loop-node.q c.loop-node.invariant along.0 along.1 (omega (arith, along.3))
+    (abreast-never a b (a.start + k) c.loop-node.q c.loop-node.invariant along.0 along.1 (omega (arith, along.3))
     _ (node_at a.nodes.now a.start c.args.p k (omega arith)) step)
 
 pub loop-node-preserved : goal.loop-node-preserved
@@ -45,7 +45,7 @@ loop-node-preserved c =
     let step = rw (c.at.ensures.nodes, c.at.ensures.start) at c.in_ok-q.ensures in
     let e : a.start + k + 1 ≡ a.start + (k + 1) = omega arith in
     subst (λ (at : ℕ). Abreast a.nodes.now b.nodes.now a.start b.start at next) e
-    (abreast-on a.nodes.now b.nodes.now a.whole b.whole a.start b.start a.inside b.inside (a.start + k) c.loop-node.q c.loop-node.invariant along.0 along.1 (omega (arith, along.3))
+    (abreast-on a b (a.start + k) c.loop-node.q c.loop-node.invariant along.0 along.1 (omega (arith, along.3))
     _ (node_at a.nodes.now a.start c.args.p k (omega arith)) next step)
 
 pub returns : goal.returns
@@ -54,4 +54,4 @@ returns c =
     let b = c.args.b in
     let ends : a.start + c.loop-node.node-index ≡ c.args.p = omega (arith, c.requires.2, c.requires.3, c.requires.1.within) in
     let g = subst (λ (at : ℕ). Abreast a.nodes.now b.nodes.now a.start b.start at c.loop-node.q) ends c.loop-node.invariant in
-    λ e n h. met-here a.nodes.now b.nodes.now a.whole b.whole a.start b.start a.inside b.inside c.args.p c.loop-node.q g e n h
+    λ e n h. met-here a b c.args.p c.loop-node.q g e n h
