@@ -47,56 +47,44 @@ fn sift<const N: usize>(
     struck
 }
 
-// Strikes out, in the other literals with the variable of this slot, the candidates that give it a label that no candidate
-// of its own literal gives. Literals that lose a candidate come into the queue.
-fn revise<const N: usize, const K: usize>(
-    table: &Table<'_, N, K>,
-    slot: &Slot<N>,
-    sets: &mut Candidates,
-    queue: &mut BitSet<4>,
-)
-    requires { (s : ℕ) × (s < length (elems table.now.slots)) × (slot_at (elems table.now.slots) s ≡ slot.now) }
-    ensures { Pruned (elems table.now.slots) (length table.now.literals.starts.now) (length table.now.targets.starts.now) sets.old sets.new }
-{
-    let n = table.targets.len();
-    let marks = mark(&sets[slot.literal], &slot.labels, n);
-    for other in table.slots.as_slice() {
-        if other.variable == slot.variable && other.literal != slot.literal {
-            if sift(&mut sets[other.literal], &other.labels, n, &marks) {
-                queue.include(other.literal);
+impl<const N: usize, const K: usize> Table<'_, N, K> {
+    // Strikes out, in the other literals with the variable of this slot, the candidates that give it a label that no candidate
+    // of its own literal gives. Literals that lose a candidate come into the queue.
+    fn revise(&self, slot: &Slot<N>, sets: &mut Candidates, queue: &mut BitSet<4>)
+        requires { (s : ℕ) × (s < length (elems self.now.slots)) × (slot_at (elems self.now.slots) s ≡ slot.now) }
+        ensures { Pruned (elems self.now.slots) (length self.now.literals.starts.now) (length self.now.targets.starts.now) sets.old sets.new }
+    {
+        let n = self.targets.len();
+        let marks = mark(&sets[slot.literal], &slot.labels, n);
+        for other in self.slots.as_slice() {
+            if other.variable == slot.variable && other.literal != slot.literal {
+                if sift(&mut sets[other.literal], &other.labels, n, &marks) {
+                    queue.include(other.literal);
+                }
             }
         }
     }
-}
 
-// Strikes out what disagrees with literal `i`.
-fn revise_literal<const N: usize, const K: usize>(
-    table: &Table<'_, N, K>,
-    i: usize,
-    sets: &mut Candidates,
-    queue: &mut BitSet<4>,
-)
-    ensures { Pruned (elems table.now.slots) (length table.now.literals.starts.now) (length table.now.targets.starts.now) sets.old sets.new }
-{
-    for slot in table.slots.as_slice() {
-        if slot.literal == i {
-            revise(table, slot, sets, queue);
+    // Strikes out what disagrees with literal `i`.
+    fn revise_literal(&self, i: usize, sets: &mut Candidates, queue: &mut BitSet<4>)
+        ensures { Pruned (elems self.now.slots) (length self.now.literals.starts.now) (length self.now.targets.starts.now) sets.old sets.new }
+    {
+        for slot in self.slots.as_slice() {
+            if slot.literal == i {
+                self.revise(slot, sets, queue);
+            }
         }
     }
-}
 
-// Strikes out candidates until no two literals disagree, beginning at the literals in the queue.
-pub fn prune<const N: usize, const K: usize>(
-    table: &Table<'_, N, K>,
-    sets: &mut Candidates,
-    mut queue: BitSet<4>,
-)
-    ensures { Pruned (elems table.now.slots) (length table.now.literals.starts.now) (length table.now.targets.starts.now) sets.old sets.new }
-{
-    for _ in 0..ROUNDS {
-        let Some(i) = queue.pop() else {
-            return;
-        };
-        revise_literal(table, i, sets, &mut queue);
+    // Strikes out candidates until no two literals disagree, beginning at the literals in the queue.
+    pub fn prune(&self, sets: &mut Candidates, mut queue: BitSet<4>)
+        ensures { Pruned (elems self.now.slots) (length self.now.literals.starts.now) (length self.now.targets.starts.now) sets.old sets.new }
+    {
+        for _ in 0..ROUNDS {
+            let Some(i) = queue.pop() else {
+                return;
+            };
+            self.revise_literal(i, sets, &mut queue);
+        }
     }
 }

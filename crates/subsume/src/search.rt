@@ -7,7 +7,6 @@ ghost use Rattle.subsume.specs.Solving.{Solved, Hopeful};
 
 use super::bits::BitSet;
 use super::check::check;
-use super::prune::prune;
 use super::state::State;
 use super::table::Table;
 
@@ -30,83 +29,74 @@ fn settled(left: &BitSet<4>, n: usize) -> Option<usize>
     left.only().filter(|j| *j < n)
 }
 
-// Makes the choices for which one target is left.
-fn settle<const N: usize, const K: usize>(table: &Table<'_, N, K>, state: &mut State<N>)
-    requires { Picked state.old.sets (length table.now.literals.starts.now) (length table.now.targets.starts.now) state.old.picks }
-    ensures picked { Picked state.new.sets (length table.now.literals.starts.now) (length table.now.targets.starts.now) state.new.picks }
-    ensures fewer { undone state.new.picks ≤ undone state.old.picks }
-    ensures same { state.new.sets ≡ state.old.sets }
-{
-    for i in 0..table.literals.len() {
-        if let Some(j) = settled(&state.sets[i], table.targets.len()) {
-            state.picks[i] = Some(j as u16);
-        }
-    }
-}
-
-// The literal with the fewest targets left, of those whose choice is still to be made.
-fn choose<const N: usize, const K: usize>(
-    table: &Table<'_, N, K>,
-    state: &State<N>,
-) -> Option<usize>
-    ensures { Chosen result (length table.now.literals.starts.now) state.now.picks }
-{
-    let mut best: Option<(usize, u32)> = None;
-    for i in 0..table.literals.len() {
-        if state.picks[i].is_none() {
-            let count = state.sets[i].count();
-            if best.is_none_or(|(_, fewest)| count < fewest) {
-                best = Some((i, count));
+impl<const N: usize, const K: usize> Table<'_, N, K> {
+    // Makes the choices for which one target is left.
+    fn settle(&self, state: &mut State<N>)
+        requires { Picked state.old.sets (length self.now.literals.starts.now) (length self.now.targets.starts.now) state.old.picks }
+        ensures picked { Picked state.new.sets (length self.now.literals.starts.now) (length self.now.targets.starts.now) state.new.picks }
+        ensures fewer { undone state.new.picks ≤ undone state.old.picks }
+        ensures same { state.new.sets ≡ state.old.sets }
+    {
+        for i in 0..self.literals.len() {
+            if let Some(j) = settled(&state.sets[i], self.targets.len()) {
+                state.picks[i] = Some(j as u16);
             }
         }
     }
-    best.map(|(i, _)| i)
-}
 
-// Whether some choice works. Where it says no, none works whose targets are left.
-pub fn search<const N: usize, const K: usize, const V: usize>(
-    table: &Table<'_, N, K>,
-    mut state: State<N>,
-) -> bool
-    requires variables { Below V table.now.literals.nodes.now × (V ≤ 65536) }
-    requires picked { Picked state.sets (length table.now.literals.starts.now) (length table.now.targets.starts.now) state.picks }
-    ensures found { result ≡ true → Solved table.now.literals.nodes.now table.now.literals.starts.now table.now.targets.nodes.now table.now.targets.starts.now }
-    ensures none { result ≡ false → Hopeful table.now.literals.nodes.now table.now.literals.starts.now table.now.targets.nodes.now table.now.targets.starts.now state.entry.sets → ⊥ }
-{
-    settle(table, &mut state);
-    let Some(i) = choose(table, &state) else {
-        return check::<V>(table.literals, table.targets, &state.picks);
-    };
-    for j in 0..table.targets.len() {
-        if state.sets[i].test(j) {
-            if search::<N, K, V>(table, take(table, &state, i, j)) {
-                return true;
+    // The literal with the fewest targets left, of those whose choice is still to be made.
+    fn choose(&self, state: &State<N>) -> Option<usize>
+        ensures { Chosen result (length self.now.literals.starts.now) state.now.picks }
+    {
+        let mut best: Option<(usize, u32)> = None;
+        for i in 0..self.literals.len() {
+            if state.picks[i].is_none() {
+                let count = state.sets[i].count();
+                if best.is_none_or(|(_, fewest)| count < fewest) {
+                    best = Some((i, count));
+                }
             }
         }
+        best.map(|(i, _)| i)
     }
-    false
-}
 
-// What is left once literal `i` takes the target `j`.
-fn take<const N: usize, const K: usize>(
-    table: &Table<'_, N, K>,
-    state: &State<N>,
-    i: usize,
-    j: usize,
-) -> State<N>
-    requires literal { (i < length table.now.literals.starts.now) × (pick state.now.picks i ≡ None) }
-    requires target { j < length table.now.targets.starts.now }
-    requires picked { Picked state.now.sets (length table.now.literals.starts.now) (length table.now.targets.starts.now) state.now.picks }
-    ensures taken { Taken (elems table.now.slots) (length table.now.literals.starts.now) (length table.now.targets.starts.now) state.now.sets i j result.sets }
-    ensures picked { Picked result.sets (length table.now.literals.starts.now) (length table.now.targets.starts.now) result.picks }
-    ensures fewer { undone result.picks < undone state.now.picks }
-{
-    let mut sets = state.sets;
-    narrow(&mut sets[i], j, table.targets.len());
-    let mut queue = BitSet::<4>::new();
-    queue.include(i);
-    prune(table, &mut sets, queue);
-    let mut picks = state.picks;
-    picks[i] = Some(j as u16);
-    State { sets, picks }
+    // Whether some choice works. Where it says no, none works whose targets are left.
+    pub fn search<const V: usize>(&self, mut state: State<N>) -> bool
+        requires variables { Below V self.now.literals.nodes.now × (V ≤ 65536) }
+        requires picked { Picked state.sets (length self.now.literals.starts.now) (length self.now.targets.starts.now) state.picks }
+        ensures found { result ≡ true → Solved self.now.literals.nodes.now self.now.literals.starts.now self.now.targets.nodes.now self.now.targets.starts.now }
+        ensures none { result ≡ false → Hopeful self.now.literals.nodes.now self.now.literals.starts.now self.now.targets.nodes.now self.now.targets.starts.now state.entry.sets → ⊥ }
+    {
+        self.settle(&mut state);
+        let Some(i) = self.choose(&state) else {
+            return check::<V>(self.literals, self.targets, &state.picks);
+        };
+        for j in 0..self.targets.len() {
+            if state.sets[i].test(j) {
+                if self.search::<V>(self.take(&state, i, j)) {
+                    return true;
+                }
+            }
+        }
+        false
+    }
+
+    // What is left once literal `i` takes the target `j`.
+    fn take(&self, state: &State<N>, i: usize, j: usize) -> State<N>
+        requires literal { (i < length self.now.literals.starts.now) × (pick state.now.picks i ≡ None) }
+        requires target { j < length self.now.targets.starts.now }
+        requires picked { Picked state.now.sets (length self.now.literals.starts.now) (length self.now.targets.starts.now) state.now.picks }
+        ensures taken { Taken (elems self.now.slots) (length self.now.literals.starts.now) (length self.now.targets.starts.now) state.now.sets i j result.sets }
+        ensures picked { Picked result.sets (length self.now.literals.starts.now) (length self.now.targets.starts.now) result.picks }
+        ensures fewer { undone result.picks < undone state.now.picks }
+    {
+        let mut sets = state.sets;
+        narrow(&mut sets[i], j, self.targets.len());
+        let mut queue = BitSet::<4>::new();
+        queue.include(i);
+        self.prune(&mut sets, queue);
+        let mut picks = state.picks;
+        picks[i] = Some(j as u16);
+        State { sets, picks }
+    }
 }

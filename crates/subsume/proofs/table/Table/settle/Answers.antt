@@ -4,12 +4,12 @@ use Rattle.subsume.specs.Bits.{bit_at}
 use Rattle.subsume.specs.Choices.{Picked, undone}
 use Rattle.subsume.proofs.Pruning.{row-read}
 use Rattle.subsume.proofs.Picking.{undone-set, picked-set}
-use Rattle.subsume.proofs.search.settle.Goals as goal
-use Rattle.subsume.proofs.search.settle.Goals.{in-Some, in_default}
+use Rattle.subsume.proofs.table.Table.settle.Goals as goal
+use Rattle.subsume.proofs.table.Table.settle.Goals.{in-Some, in_default}
 
 pub loop-i-preserved : goal.loop-i-preserved
 loop-i-preserved g c =
-    let t = c.args.table.now in
+    let t = c.args.self.now in
     let m = length t.literals.starts.now in
     let n = length t.targets.starts.now in
     let first = c.args.state.now in

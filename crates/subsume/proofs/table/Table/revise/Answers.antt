@@ -5,12 +5,12 @@ use Rattle.subsume.specs.declared.bits.BitSet.{BitSet}
 use Rattle.subsume.specs.declared.slot.Slot.{Slot}
 use Rattle.subsume.specs.Choices.{no_slot, slot_at, Sifted, Pruned}
 use Rattle.subsume.proofs.Pruning.{item, row-read, sift-prunes}
-use Rattle.subsume.proofs.prune.revise.Goals as goal
-use Rattle.subsume.proofs.prune.revise.Goals.{then-other-slot+then-other-slot-2+then-sift, then-other-slot+then-other-slot-2+else-sift, else-other-slot}
+use Rattle.subsume.proofs.table.Table.revise.Goals as goal
+use Rattle.subsume.proofs.table.Table.revise.Goals.{then-other-slot+then-other-slot-2+then-sift, then-other-slot+then-other-slot-2+else-sift, else-other-slot}
 
 pub include-requires : goal.include-requires
 include-requires g c =
-    let t = c.args.table.now in
+    let t = c.args.self.now in
     let m = length t.literals.starts.now in
     let same = c.as_slice-other-items.ensures.value in
     let k = c.loop-other.other-index in
@@ -25,7 +25,7 @@ Kept slots m n start sets = Pruned slots m n start sets × (length sets ≡ 256)
 
 pub loop-other-preserved : goal.loop-other-preserved
 loop-other-preserved g c =
-    let t = c.args.table.now in
+    let t = c.args.self.now in
     let m = length t.literals.starts.now in
     let n = length t.targets.starts.now in
     let slots = elems t.slots in

@@ -5,12 +5,12 @@ use Rattle.subsume.specs.Bits.{bit_at}
 use Rattle.subsume.specs.Solving.{Hopeful}
 use Rattle.subsume.proofs.Pruning.{row-read}
 use Rattle.subsume.proofs.Searching.{tried, decided, out_none, out-more, out-all, gone}
-use Rattle.subsume.proofs.search.+search.Goals as goal
-use Rattle.subsume.proofs.search.+search.Goals.{then-test+else-search, else-test}
+use Rattle.subsume.proofs.table.Table.+search.Goals as goal
+use Rattle.subsume.proofs.table.Table.+search.Goals.{then-test+else-search, else-test}
 
 pub returns-in_default : goal.returns-in_default
 returns-in_default g t c =
-    let z = c.args.table.now in
+    let z = c.args.self.now in
     let a = z.literals in
     let b = z.targets in
     let made = c.settle.new.state in
@@ -19,12 +19,12 @@ returns-in_default g t c =
 
 pub loop-j-init : goal.loop-j-init
 loop-j-init g t c =
-    let z = c.args.table.now in
+    let z = c.args.self.now in
     out_none z.literals.nodes.now z.literals.starts.now z.targets.nodes.now z.targets.starts.now c.settle.new.state.sets c.in-Some.i
 
 pub loop-j-preserved : goal.loop-j-preserved
 loop-j-preserved g t c =
-    let z = c.args.table.now in
+    let z = c.args.self.now in
     let N = z.literals.nodes.now in
     let S = z.literals.starts.now in
     let M = z.targets.nodes.now in
@@ -42,7 +42,7 @@ loop-j-preserved g t c =
 
 pub returns-clause-none : goal.returns-clause-none
 returns-clause-none g t c =
-    let z = c.args.table.now in
+    let z = c.args.self.now in
     let a = z.literals in
     let b = z.targets in
     λ _ h. out-all a.nodes.now a.starts.now b.nodes.now b.starts.now c.settle.new.state.sets c.in-Some.i c.loop-j.j c.in-Some.ensures.0 (omega arith) c.loop-j.invariant

@@ -1,7 +1,0 @@
-use Rattle.std.proofs.Common.{length}
-use Rattle.bounded.specs.Elems.{elems}
-use Rattle.subsume.specs.Choices.{Pruned}
-use Rattle.subsume.proofs.prune.prune.Given as goal
-
-abbrev pub invariant-loop : goal.invariant-loop
-invariant-loop g l = Pruned (elems l.table.slots) (length l.table.literals.starts.now) (length l.table.targets.starts.now) l.initial.sets l.sets
