@@ -1,4 +1,4 @@
-mod Flips
+mod Sets
 mod Pruning
 mod Abreast
 mod Checked

@@ -1,8 +1,6 @@
 -- Bits of a list of words of 64.
-use Rattle.std.specs.Prelude.{◌≡◌, ℕ, ◌*◌, ◌/◌, ◌%◌, ◌^◌, ◌<◌, List, length, slice_index, Some, None, Option, ◌≢◌}
-
-unfoldable pub bit : (word k : ℕ) → ℕ
-bit word k = word / 2 ^ k % 2
+use Rattle.std.specs.Prelude.{◌≡◌, ℕ, ◌*◌, ◌/◌, ◌%◌, ◌<◌, List, length, slice_index, Some, None, Option, ◌≢◌}
+use Rattle.std.specs.Int.{bit_at as bit}
 
 -- 1 where k is in the set, else 0
 unfoldable pub bit_at : List ℕ → (k : ℕ) → ℕ

@@ -1,5 +1,5 @@
 // Sets of numbers, as bits in words of 64.
-ghost use Rattle.std.specs.Prelude.{◌≡◌, ℕ, ◌-◌, ◌*◌, ◌<◌, ◌≤◌, length, map, sum, count_ones, Decides, ◌≢◌};
+ghost use Rattle.std.specs.Prelude.{◌≡◌, ℕ, ◌*◌, ◌<◌, ◌≤◌, length, map, sum, count_ones, Decides, ◌≢◌};
 ghost use Rattle.subsume.specs.Bits.{bit_at, First, Popped, Only};
 
 use std::alloc::AllocError;
@@ -35,24 +35,13 @@ impl<const W: usize> BitSet<W> {
         (self.words[k / 64] >> (k % 64)) % 2 == 1
     }
 
-    // Takes `k` out of the set, or puts it in.
-    fn flip(&mut self, k: usize)
-        requires { k < 64 * W }
-        ensures here { bit_at self.new.words k ≡ 1 - bit_at self.old.words k }
-        ensures others { (l : ℕ) → (l ≢ k) → bit_at self.new.words l ≡ bit_at self.old.words l }
-    {
-        self.words[k / 64] ^= 1u64 << (k % 64);
-    }
-
     // Puts `k` into the set.
     pub fn include(&mut self, k: usize)
         requires { k < 64 * W }
         ensures here { bit_at self.new.words k ≡ 1 }
         ensures others { (l : ℕ) → (l ≢ k) → bit_at self.new.words l ≡ bit_at self.old.words l }
     {
-        if !self.test(k) {
-            self.flip(k);
-        }
+        self.words[k / 64] |= 1u64 << (k % 64);
     }
 
     // Takes `k` out of the set.
@@ -61,9 +50,7 @@ impl<const W: usize> BitSet<W> {
         ensures here { bit_at self.new.words k ≡ 0 }
         ensures others { (l : ℕ) → (l ≢ k) → bit_at self.new.words l ≡ bit_at self.old.words l }
     {
-        if self.test(k) {
-            self.flip(k);
-        }
+        self.words[k / 64] &= !(1u64 << (k % 64));
     }
 
     // The least number in the set.
@@ -83,7 +70,7 @@ impl<const W: usize> BitSet<W> {
         ensures { Popped self.old.words self.new.words result }
     {
         let k = self.first()?;
-        self.flip(k);
+        self.exclude(k);
         Some(k)
     }
 

@@ -1,5 +1,5 @@
 use Rattle.std.proofs.Common.{arith}
-use Rattle.subsume.proofs.Flips.{first-word, no-first}
+use Rattle.subsume.proofs.Sets.{first-word, no-first}
 use Rattle.subsume.proofs.bits.BitSet.first.Goals as goal
 
 pub returns-then-word-ne0 : goal.returns-then-word-ne0

@@ -1,9 +1,16 @@
-use Rattle.std.proofs.Common.{ℕ, ◌-◌, ap, ◌∙◌}
-use Rattle.std.proofs.lemmas.Bool.{both_ways}
-use Rattle.subsume.proofs.Flips.{not-one}
+use Rattle.std.proofs.Common.{◌/◌, ◌%◌, ◌∙◌, get_or, arith}
+use Rattle.std.specs.Int.{w64}
+use Rattle.std.proofs.lemmas.Nat.Bits.{bit_at_set_same, bit_at_set_other}
+use Rattle.subsume.proofs.Sets.{set_here, set_others}
 use Rattle.subsume.proofs.bits.BitSet.include.Goals as goal
 
-pub returns-then-not-test-clause-here : goal.returns-then-not-test-clause-here
-returns-then-not-test-clause-here g c =
-    c.flip.ensures.here
-    ∙ ap (λ (x : ℕ). 1 - x) (not-one c.args.self.now.words c.args.k (λ e. both_ways _ c.if-not-test.true (c.test.ensures.1 e)))
+pub returns-clause-here : goal.returns-clause-here
+returns-clause-here g c =
+    let long = c.args.self.now.sized in
+    set_here c.args.self.now.words c.args.k _ (omega arith) ∙ bit_at_set_same w64 (get_or c.args.self.now.words (c.args.k / 64) 0) (c.args.k % 64) (omega arith)
+
+pub returns-clause-others : goal.returns-clause-others
+returns-clause-others g c =
+    let long = c.args.self.now.sized in
+    let w = get_or c.args.self.now.words (c.args.k / 64) 0 in
+    set_others c.args.self.now.words c.args.k _ (omega arith) (λ i h n. bit_at_set_other w64 w (c.args.k % 64) (omega arith) i n)

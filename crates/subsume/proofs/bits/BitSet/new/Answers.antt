@@ -1,4 +1,4 @@
-use Rattle.subsume.proofs.Flips.{none-in}
+use Rattle.subsume.proofs.Sets.{none-in}
 use Rattle.subsume.proofs.bits.BitSet.new.Goals as goal
 
 pub returns : goal.returns
