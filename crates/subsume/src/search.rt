@@ -72,10 +72,8 @@ impl<const N: usize, const K: usize> Table<'_, N, K> {
             return check::<V>(self.literals, self.targets, &state.picks);
         };
         for j in 0..self.targets.len() {
-            if state.sets[i].test(j) {
-                if self.search::<V>(self.take(&state, i, j)) {
-                    return true;
-                }
+            if state.sets[i].test(j) && self.search::<V>(self.take(&state, i, j)) {
+                return true;
             }
         }
         false

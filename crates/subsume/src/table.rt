@@ -8,11 +8,11 @@ use super::slot::Slot;
 use super::view::View;
 use bounded::Bounded;
 
-// For each literal, the targets that are left for it.
+// For each of at most 256 literals, which of at most 256 targets are left for it.
 pub type Candidates = [BitSet<4>; 256];
 
-// The literals of one clause, those of another as their targets, and slots for variables of the first: as many as there
-// is room for.
+// The literals of one clause, those of another as their targets, and a slot for each variable of each literal, as far as
+// there is room.
 pub struct Table<'a, const N: usize, const K: usize> {
     pub literals: View<'a>,
     pub targets: View<'a>,
