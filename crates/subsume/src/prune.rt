@@ -48,8 +48,8 @@ fn sift<const N: usize>(
 }
 
 impl<const N: usize, const K: usize> Table<'_, N, K> {
-    // Strikes out, in the other literals with the variable of this slot, the candidates that give it a label that no candidate
-    // of its own literal gives. Literals that lose a candidate come into the queue.
+    // Strikes out, in the other literals with the variable of this slot, the candidates that give it a label that no
+    // candidate of its own literal gives. Literals that lose a candidate come into the queue.
     fn revise(&self, slot: &Slot<N>, sets: &mut Candidates, queue: &mut BitSet<4>)
         requires { (s : ℕ) × (s < length (elems self.now.slots)) × (slot_at (elems self.now.slots) s ≡ slot.now) }
         ensures { Pruned (elems self.now.slots) (length self.now.literals.starts.now) (length self.now.targets.starts.now) sets.old sets.new }
