@@ -1,5 +1,5 @@
 // Sets of numbers, as bits in words of 64.
-ghost use Rattle.std.specs.Prelude.{◌≡◌, ℕ, ◌*◌, ◌<◌, ◌≤◌, length, map, sum, count_ones, Decides, ◌≢◌};
+ghost use Rattle.std.specs.Prelude.{◌≡◌, ℕ, ◌*◌, ◌<◌, ◌≤◌, ⊤, length, map, sum, count_ones, Decides, ◌≢◌};
 ghost use Rattle.subsume.specs.Bits.{bit_at, First, Popped, Only};
 
 use std::alloc::AllocError;
@@ -12,7 +12,12 @@ pub struct BitSet<const W: usize> {
     ghost few: { W ≤ 1024 },
 }
 
+// By hand, since `Clone` cannot be derived for a generic struct with a ghost field.
 impl<const W: usize> Clone for BitSet<W> {
+    ghost is_clone = { λ x y. y ≡ x };
+
+    ghost is_infallible = { λ _. ⊤ };
+
     fn clone(&self) -> Result<BitSet<W>, AllocError> {
         Ok(*self)
     }

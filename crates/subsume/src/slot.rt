@@ -1,5 +1,5 @@
 // A place of a variable in a literal, with what the targets give it.
-ghost use Rattle.std.specs.Prelude.{◌≡◌, length};
+ghost use Rattle.std.specs.Prelude.{◌≡◌, ⊤, length};
 
 use std::alloc::AllocError;
 
@@ -12,7 +12,12 @@ pub struct Slot<const N: usize> {
     ghost sized: { length labels ≡ N },
 }
 
+// By hand, since `Clone` cannot be derived for a generic struct with a ghost field.
 impl<const N: usize> Clone for Slot<N> {
+    ghost is_clone = { λ x y. y ≡ x };
+
+    ghost is_infallible = { λ _. ⊤ };
+
     fn clone(&self) -> Result<Slot<N>, AllocError> {
         Ok(*self)
     }

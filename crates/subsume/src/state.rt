@@ -4,18 +4,11 @@
 ghost use Rattle.std.specs.Prelude.{◌≡◌, length};
 
 use super::table::Candidates;
-use std::alloc::AllocError;
 
-#[derive(Copy)]
+#[derive(Drop)]
 pub struct State<const N: usize> {
     pub sets: Candidates,
     pub picks: [Option<u16>; N],
     ghost rows: { length sets ≡ 256 },
     ghost sized: { length picks ≡ N },
-}
-
-impl<const N: usize> Clone for State<N> {
-    fn clone(&self) -> Result<State<N>, AllocError> {
-        Ok(*self)
-    }
 }
