@@ -19,9 +19,9 @@ fn mark<const N: usize>(left: &BitSet<4>, labels: &[u16; N], n: usize) -> BitSet
     ensures { Marked left.now.words labels.now n result.words }
 {
     let mut marks = BitSet::<64>::new();
-    for j in 0..n {
+    for (j, label) in labels[..n].iter().enumerate() {
         if left.test(j) {
-            marks.include(labels[j] as usize % LABELS);
+            marks.include(*label as usize % LABELS);
         }
     }
     marks
@@ -38,8 +38,8 @@ fn sift<const N: usize>(
     ensures { Sifted left.old.words left.new.words labels.now n marks.now.words }
 {
     let mut struck = false;
-    for j in 0..n {
-        if left.test(j) && !marks.test(labels[j] as usize % LABELS) {
+    for (j, label) in labels[..n].iter().enumerate() {
+        if left.test(j) && !marks.test(*label as usize % LABELS) {
             left.exclude(j);
             struck = true;
         }
