@@ -24,8 +24,8 @@ fn check_each(a: View<'_>, b: View<'_>, picks: &[Option<u16>], bound: &mut [Opti
     requires chosen { Made picks.now (length a.starts.now) (length b.starts.now) }
     ensures { Decides result (Works a.entry.nodes.now a.entry.starts.now b.entry.nodes.now b.entry.starts.now (picked picks.now)) }
 {
-    for i in 0..a.len() {
-        let Some(j) = picks[i] else {
+    for (i, pick) in picks[..a.len()].iter().enumerate() {
+        let Some(j) = *pick else {
             return false;
         };
         if match_word(a.literal(i), b.literal(j as usize), bound).is_none() {

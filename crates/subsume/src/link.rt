@@ -25,9 +25,9 @@ impl<'a, const N: usize, const K: usize> Table<'a, N, K> {
         ensures length { length result ≡ N }
     {
         let mut row = [0; N];
-        for j in 0..self.targets.len() {
-            if let Some(label) = met_label(literal, p, self.targets.literal(j)) {
-                row[j] = label;
+        for (j, label) in row[..self.targets.len()].iter_mut().enumerate() {
+            if let Some(met) = met_label(literal, p, self.targets.literal(j)) {
+                *label = met;
             }
         }
         row
@@ -89,8 +89,8 @@ impl<'a, const N: usize, const K: usize> Table<'a, N, K> {
         ensures { Open self.now.literals.nodes.now self.now.literals.starts.now self.now.targets.nodes.now self.now.targets.starts.now result (length self.now.literals.starts.now) }
     {
         let mut sets = [BitSet::<4>::new(); 256];
-        for i in 0..self.literals.len() {
-            open_row(&mut sets[i], self.literals.literal(i), self.targets);
+        for (i, set) in sets[..self.literals.len()].iter_mut().enumerate() {
+            open_row(set, self.literals.literal(i), self.targets);
         }
         sets
     }

@@ -7,5 +7,5 @@ use Rattle.subsume.proofs.table.Table.label_row.Given as goal
 
 abbrev pub invariant-loop-j : goal.invariant-loop-j
 invariant-loop-j g l =
-    ((k : ℕ) → k < l.j → (θ : ℕ → Word) → Turns l.literal.nodes.now l.literal.start l.self.targets.nodes.now (get_or l.self.targets.starts.now k 0) θ → get_or l.row k 0 ≡ label_of (sub θ (word_at l.literal.nodes.now l.p)))
-    × (length l.row ≡ g.row.N)
+    ((k : ℕ) → k < l.j → (θ : ℕ → Word) → Turns l.literal.nodes.now l.literal.start l.self.targets.nodes.now (get_or l.self.targets.starts.now k 0) θ → get_or l.label-items k 0 ≡ label_of (sub θ (word_at l.literal.nodes.now l.p)))
+    × (length l.label-items ≡ length l.self.targets.starts.now)
