@@ -2,11 +2,12 @@
 use Rattle.std.proofs.Common.{◌≡◌, ℕ, zero, suc, ◌+◌, ◌<◌, ◌≤◌, List, [], ◌∷◌, length, set, Some, None, Option, Bool, true, false, not, unwrap_or, sym, refl, ap, ◌∙◌, subst, ⊎_elim, arith}
 use Rattle.std.proofs.lemmas.List.{get_or-set_same, get_or-set_other}
 use Rattle.std.proofs.lemmas.Bool.{cases_eq, false≢true}
+use Rattle.std.specs.List.{filter, enumerate_from}
 use Rattle.std.specs.Option.{is_some}
 use Rattle.subsume.specs.declared.bits.BitSet.{BitSet}
 use Rattle.subsume.specs.declared.slot.Slot.{Slot}
 use Rattle.subsume.specs.Bits.{bit_at}
-use Rattle.subsume.specs.Choices.{left, pick, picked, Fewer, Taken, Picked, undone}
+use Rattle.subsume.specs.Choices.{left, pick, picked, Fewer, Taken, Picked, Chosen, undone}
 
 -- a choice that is made counts no more
 pub undone-set : (picks : List (Option ℕ)) (i j : ℕ) → undone (set picks i (Some j)) ≤ undone picks
@@ -52,24 +53,17 @@ module _ (m n : ℕ) where
       (cases_eq l i) in
       picked-fewer t.mid after (set picks i (Some j)) (picked-set t.mid picks i j inside small (picked-fewer sets t.mid picks p fewer) t.narrowed.only) t.pruned.fewer
 
--- whether a choice is made
-pub made : (o : Option ℕ) (r : Bool) → is_some o ≡ not r → r ≡ false → o ≡ Some (unwrap_or o 0)
-made (Some j) r e f = refl
-made None r e f = let z : false ≡ true = e ∙ ap not f in absurd (false≢true z)
+-- whether a choice is still to be made
+abbrev pub unmade : ℕ × Option ℕ → Bool
+unmade p = not (is_some p.1)
 
-pub unmade : (o : Option ℕ) (r : Bool) → is_some o ≡ not r → r ≡ true → o ≡ None
-unmade None r e f = refl
-unmade (Some j) r e f = let z : true ≡ false = e ∙ ap not f in absurd (false≢true (sym z))
+-- where none is, each is made
+pub all_made : (picks : List (Option ℕ)) (n i : ℕ) → 0 ≡ length (filter unmade (enumerate_from n picks)) → i < length picks → pick picks i ≡ Some (picked picks i)
+all_made [] n i e h = absurd (omega arith)
+all_made (None ∷ picks) n i e h = absurd (omega (arith, e))
+all_made (Some j ∷ picks) n zero e h = refl
+all_made (Some j ∷ picks) n (suc i) e h = all_made picks (n + 1) i e (omega arith)
 
--- the literal chosen so far
-abbrev pub Choosing : Option (ℕ × ℕ) → (m i : ℕ) → List (Option ℕ) → Type 0
-Choosing (Some b) m i picks = (b.0 < m) × (pick picks b.0 ≡ None)
-Choosing None m i picks = (k : ℕ) → k < i → pick picks k ≡ Some (picked picks k)
-
-pub choosing-made : (o : Option (ℕ × ℕ)) (m i : ℕ) (picks : List (Option ℕ)) → Choosing o m i picks → pick picks i ≡ Some (picked picks i) → Choosing o m (i + 1) picks
-choosing-made (Some b) m i picks g e = g
-choosing-made None m i picks g e = λ k h. ⊎_elim (λ (s : k ≡ i). subst (λ (x : ℕ). pick picks x ≡ Some (picked picks x)) (sym s) e) (λ s. g k (omega (arith, s))) (cases_eq k i)
-
-pub choosing-kept : (o : Option (ℕ × ℕ)) (m i : ℕ) (picks : List (Option ℕ)) → Choosing o m i picks → (o ≡ None → ⊥) → Choosing o m (i + 1) picks
-choosing-kept (Some b) m i picks g n = g
-choosing-kept None m i picks g n = absurd (n refl)
+pub chosen_by : (o : Option ℕ) (m : ℕ) (picks : List (Option ℕ)) → ((i : ℕ) → o ≡ Some i → i < m) → ((i : ℕ) → o ≡ Some i → pick picks i ≡ None) → (o ≡ None → (i : ℕ) → i < m → pick picks i ≡ Some (picked picks i)) → Chosen o m picks
+chosen_by (Some i) m picks inside free none = (inside i refl, free i refl)
+chosen_by None m picks inside free none = none refl

@@ -56,6 +56,7 @@ impl<'a, const N: usize, const K: usize> Table<'a, N, K> {
         ensures { (self.new.literals ≡ self.old.literals) × (self.new.targets ≡ self.old.targets) }
     {
         let literal = self.literals.literal(i);
+        // By place: a slot is asked for by the place of its node, so counting from the start of a part is no plainer.
         for p in literal.start..literal.end() {
             if let Node::Variable(x) = literal.nodes[p] {
                 self.add_slot(i, p, x);

@@ -1,5 +1,5 @@
 // The search: takes the literal with the fewest candidates, tries each, prunes, and goes on.
-ghost use Rattle.std.specs.Prelude.{◌≡◌, ◌<◌, ◌≤◌, true, false, None, length};
+ghost use Rattle.std.specs.Prelude.{◌≡◌, ◌<◌, ◌≤◌, true, false, None, length, Decides};
 ghost use Rattle.bounded.specs.Elems.{elems};
 ghost use Rattle.term.specs.Matched.{Below};
 ghost use Rattle.subsume.specs.Choices.{Settled, Narrowed, Taken, Chosen, Picked, pick, undone};
@@ -37,6 +37,7 @@ impl<const N: usize, const K: usize> Table<'_, N, K> {
         ensures fewer { undone state.new.picks ≤ undone state.old.picks }
         ensures same { state.new.sets ≡ state.old.sets }
     {
+        // By number: the borrow checker does not cover picks lent in place beside sets, which have ghost fields.
         for i in 0..self.literals.len() {
             if let Some(j) = settled(&state.sets[i], self.targets.len()) {
                 state.picks[i] = Some(j as u16);
@@ -48,16 +49,16 @@ impl<const N: usize, const K: usize> Table<'_, N, K> {
     fn choose(&self, state: &State<N>) -> Option<usize>
         ensures { Chosen result (length self.now.literals.starts.now) state.now.picks }
     {
-        let mut best: Option<(usize, u32)> = None;
-        for i in 0..self.literals.len() {
-            if state.picks[i].is_none() {
-                let count = state.sets[i].count();
-                if best.is_none_or(|(_, fewest)| count < fewest) {
-                    best = Some((i, count));
-                }
-            }
-        }
-        best.map(|(i, _)| i)
+        state.picks[..self.literals.len()]
+            .iter()
+            .enumerate()
+            .filter(
+                |choice| -> bool
+                    ensures { Decides result (choice.now.1.now ≡ None) }
+                { choice.1.is_none() },
+            )
+            .min_by_key(|choice| state.sets[choice.0].count())
+            .map(|choice| choice.0)
     }
 
     // Whether some choice works. Where it says no, none works whose targets are left.
