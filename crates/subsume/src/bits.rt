@@ -62,12 +62,8 @@ impl<const W: usize> BitSet<W> {
     pub fn first(&self) -> Option<usize>
         ensures { First self.now.words result }
     {
-        for (w, word) in self.words.iter().enumerate() {
-            if *word != 0 {
-                return Some(64 * w + word.trailing_zeros() as usize);
-            }
-        }
-        None
+        let w = self.words.iter().position(|word| *word != 0)?;
+        Some(64 * w + self.words[w].trailing_zeros() as usize)
     }
 
     // Takes the least number out of the set.
