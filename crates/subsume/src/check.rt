@@ -24,7 +24,7 @@ fn check_each(a: View<'_>, b: View<'_>, picks: &[Option<u16>], bound: &mut [Opti
     requires chosen { Made picks.now (length a.starts.now) (length b.starts.now) }
     ensures { Decides result (Works a.entry.nodes.now a.entry.starts.now b.entry.nodes.now b.entry.starts.now (picked picks.now)) }
 {
-    // A loop and no `all`, whose closure would state in clauses of its own how the bindings change.
+    // A loop and no `all`, since each turn relies on an invariant: what the bindings say of the literals so far.
     for (i, pick) in picks[..a.len()].iter().enumerate() {
         let Some(j) = *pick else {
             return false;

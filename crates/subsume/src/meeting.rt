@@ -37,7 +37,7 @@ fn beside(node: Node, b: WordAt<'_>) -> Option<usize>
 pub fn label(word: WordAt<'_>) -> u16
     ensures { result ≡ label_of (word_at word.entry.nodes.now word.entry.start) }
 {
-    // A loop and no `fold`, whose closure would state the bound and the next label in clauses of its own.
+    // A loop and no `fold`, since each turn relies on an invariant: the label is below 4096.
     let mut label: u32 = 0;
     for node in &word.nodes[word.start..word.end()] {
         label = (label * 31 + number(*node)) % 4096;
