@@ -1,6 +1,5 @@
-use Rattle.std.proofs.Common.{◌≡◌, ℕ, ◌<◌, ◌≤◌, length, sym, refl, subst, ⊎_elim, arith}
-use Rattle.std.proofs.lemmas.List.{length-take-le}
-use Rattle.std.proofs.lemmas.Bool.{cases_lt}
+use Rattle.std.proofs.Common.{◌≡◌, ℕ, length, sym, refl, subst, arith}
+use Rattle.std.proofs.lemmas.Grind.{common_steps}
 use Rattle.term.specs.Matched.{Bindings}
 use Rattle.subsume.specs.Choices.{picked}
 use Rattle.subsume.proofs.Checked.{Bound, bound-none, bound_all}
@@ -20,8 +19,7 @@ returns c =
     let b = c.args.b in
     let f = picked c.args.picks.now in
     let n = length a.starts.now in
-    let fits : n ≤ length c.args.picks.now = ⊎_elim (λ (h : length c.args.picks.now < n). absurd (omega (arith, (c.requires.chosen (length c.args.picks.now) h).0))) (λ h. h) (cases_lt (length c.args.picks.now) n) in
-    let all : c.loop-i.i ≡ n = omega (arith, length-take-le c.len.result c.args.picks.now) in (
+    let all : c.loop-i.i ≡ n = grind (arith, common_steps) in (
       λ _. bound_all a.nodes.now a.starts.now b.nodes.now b.starts.now f c.loop-i.bound
           (subst (λ (n : ℕ). Bound a.nodes.now a.starts.now b.nodes.now b.starts.now f n c.loop-i.bound) all c.loop-i.invariant),
       λ _. refl,
