@@ -1,5 +1,5 @@
 // The search: takes the literal with the fewest candidates, tries each, prunes, and goes on.
-ghost use Rattle.std.specs.Prelude.{◌≡◌, ◌<◌, ◌≤◌, true, false, None, length, Decides};
+ghost use Rattle.std.specs.Prelude.{◌≡◌, ◌<◌, ◌≤◌, true, false, None, length};
 ghost use Rattle.bounded.specs.Elems.{elems};
 ghost use Rattle.term.specs.Matched.{Below};
 ghost use Rattle.subsume.specs.Choices.{Settled, Narrowed, Taken, Chosen, Picked, pick, undone};
@@ -52,11 +52,7 @@ impl<const N: usize, const K: usize> Table<'_, N, K> {
         state.picks[..self.literals.len()]
             .iter()
             .enumerate()
-            .filter(
-                |choice| -> bool
-                    ensures { Decides result (choice.now.1.now ≡ None) }
-                { choice.1.is_none() },
-            )
+            .filter(|choice| choice.1.is_none())
             .min_by_key(|choice| state.sets[choice.0].count())
             .map(|choice| choice.0)
     }
