@@ -52,9 +52,9 @@ impl<const N: usize, const K: usize> Table<'_, N, K> {
         state.picks[..self.literals.len()]
             .iter()
             .enumerate()
-            .filter(|choice| choice.1.is_none())
-            .min_by_key(|choice| state.sets[choice.0].count())
-            .map(|choice| choice.0)
+            .filter(|(_, pick)| pick.is_none())
+            .min_by_key(|(i, _)| state.sets[*i].count())
+            .map(|(i, _)| i)
     }
 
     // Whether some choice works. Where it says no, none works whose targets are left.
