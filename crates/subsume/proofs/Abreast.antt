@@ -6,6 +6,7 @@ use Rattle.term.specs.Joined.{Fellows}
 use Rattle.term.specs.Matched.{Turns}
 use Rattle.term.specs.Words.{Word, Words, nil, cons, ◌+++◌, len, sub, subs}
 use Rattle.term.specs.declared.node.Node.{Node}
+use Rattle.term.specs.declared.walk.WordAt.{WordAt}
 use Rattle.term.specs.declared.node.Node.TheVariants.{Variable, Applied}
 use Rattle.term.proofs.Codings.{after_one, len-tl, code-decode, whole_drop, at_words, at-whole, len-at, words-in, on}
 use Rattle.term.proofs.Joinings.{fellows-same}
@@ -38,7 +39,31 @@ pub record Abreast (a b : List Node) (i j at q : ℕ) : Type 0 where
   pub rest : after m (words_at a at) ≡ tl (words_at a i)
   pub turns : (θ : ℕ → Word) → Turns a i b j θ → subs θ (first m (words_at a at)) ≡ first m (words_at b q)
 
-module _ (a b : List Node) (wa : Whole a) (wb : Whole b) (i j : ℕ) (hi : i < length a) (hj : j < length b) where
+module _ (u v : WordAt) where
+  abbrev a : List Node
+  a = u.nodes.now
+
+  abbrev b : List Node
+  b = v.nodes.now
+
+  abbrev i : ℕ
+  i = u.start
+
+  abbrev j : ℕ
+  j = v.start
+
+  abbrev wa : Whole a
+  wa = u.whole
+
+  abbrev wb : Whole b
+  wb = v.whole
+
+  abbrev hi : i < length a
+  hi = u.inside
+
+  abbrev hj : j < length b
+  hj = v.inside
+
   pub abreast-first : Abreast a b i j i j
   abreast-first = record {
     m = 1;

@@ -1,7 +1,7 @@
-mod Flips
+mod Sets
 mod Pruning
 mod Abreast
-mod Links
 mod Checked
 mod Picking
 mod Searching
+mod Links

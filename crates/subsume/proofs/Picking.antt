@@ -1,67 +1,69 @@
 -- Choices made one after the other.
-use Rattle.std.proofs.Common.{◌≡◌, ℕ, zero, suc, ◌+◌, ◌*◌, ◌<◌, ◌≤◌, ltb, List, [], ◌∷◌, length, get_or, set, Some, None, Option, sym, ap, ◌∙◌, subst, inl, inr, ⊎_elim, arith}
+use Rattle.std.proofs.Common.{◌≡◌, ℕ, zero, suc, ◌+◌, ◌<◌, ◌≤◌, List, [], ◌∷◌, length, set, Some, None, Option, Bool, not, sym, refl, ap, ◌∙◌, ⊎_elim, arith}
 use Rattle.std.proofs.lemmas.List.{get_or-set_same, get_or-set_other}
-use Rattle.std.proofs.lemmas.Bool.{cases_eq, cases_lt, lt-ltb, le-ltb, cond_both}
-use Rattle.subsume.specs.declared.prune.Slot.{Slot}
-use Rattle.subsume.specs.Choices.{left, Fewer, Narrowed, Taken, Picked, undone}
+use Rattle.std.proofs.lemmas.Bool.{cases_eq}
+use Rattle.std.specs.List.{filter, enumerate_from}
+use Rattle.std.specs.Option.{is_some}
+use Rattle.subsume.specs.declared.bits.BitSet.{BitSet}
+use Rattle.subsume.specs.declared.slot.Slot.{Slot}
+use Rattle.subsume.specs.Bits.{bit_at}
+use Rattle.subsume.specs.Choices.{left, pick, picked, Fewer, Taken, Picked, Chosen, undone}
 
 -- a choice that is made counts no more
-undone-at : (n p : ℕ) (picks : List ℕ) → undone n (p ∷ picks) ≤ suc (undone n picks)
-undone-at n p picks = cond_both (ltb p n) (undone n picks) (suc (undone n picks)) (λ (x : ℕ). x ≤ suc (undone n picks)) (λ _. omega arith) (λ _. omega arith)
+pub undone-set : (picks : List (Option ℕ)) (i j : ℕ) → undone (set picks i (Some j)) ≤ undone picks
+undone-set [] i j = omega arith
+undone-set (None ∷ picks) zero j = omega arith
+undone-set (Some k ∷ picks) zero j = omega arith
+undone-set (None ∷ picks) (suc i) j = omega (arith, undone-set picks i j)
+undone-set (Some k ∷ picks) (suc i) j = undone-set picks i j
 
-made : (n p : ℕ) (picks : List ℕ) → p < n → undone n (p ∷ picks) ≡ undone n picks
-made n p picks h = rw (lt-ltb p n h)
-
-unmade : (n p : ℕ) (picks : List ℕ) → n ≤ p → undone n (p ∷ picks) ≡ suc (undone n picks)
-unmade n p picks h = rw (le-ltb p n h)
-
-more : (n p : ℕ) (us vs : List ℕ) → undone n us ≤ undone n vs → undone n (p ∷ us) ≤ undone n (p ∷ vs)
-more n p us vs h = ⊎_elim (λ (b : p < n). omega (arith, made n p us b, made n p vs b)) (λ (b : n ≤ p). omega (arith, unmade n p us b, unmade n p vs b)) (cases_lt p n)
-
-less : (n p : ℕ) (us vs : List ℕ) → undone n us < undone n vs → undone n (p ∷ us) < undone n (p ∷ vs)
-less n p us vs h = ⊎_elim (λ (b : p < n). omega (arith, made n p us b, made n p vs b)) (λ (b : n ≤ p). omega (arith, unmade n p us b, unmade n p vs b)) (cases_lt p n)
-
-pub undone-set : (n : ℕ) (picks : List ℕ) (i j : ℕ) → j < n → undone n (set picks i j) ≤ undone n picks
-undone-set n [] i j h = omega arith
-undone-set n (p ∷ picks) zero j h = ⊎_elim (λ (b : p < n). omega (arith, made n p picks b, made n j picks h)) (λ (b : n ≤ p). omega (arith, unmade n p picks b, made n j picks h)) (cases_lt p n)
-undone-set n (p ∷ picks) (suc i) j h = more n p (set picks i j) picks (undone-set n picks i j h)
-
-pub undone-less : (n : ℕ) (picks : List ℕ) (i j : ℕ) → j < n → i < length picks → n ≤ get_or picks i 0 → undone n (set picks i j) < undone n picks
-undone-less n [] i j h g b = absurd (omega arith)
-undone-less n (p ∷ picks) zero j h g b = omega (arith, made n j picks h, unmade n p picks b)
-undone-less n (p ∷ picks) (suc i) j h g b = less n p (set picks i j) picks (undone-less n picks i j h (omega arith) b)
+pub undone-less : (picks : List (Option ℕ)) (i j : ℕ) → i < length picks → pick picks i ≡ None → undone (set picks i (Some j)) < undone picks
+undone-less [] i j h e = absurd (omega arith)
+undone-less (None ∷ picks) zero j h e = omega arith
+undone-less (Some k ∷ picks) zero j h e = cc
+undone-less (None ∷ picks) (suc i) j h e = omega (arith, undone-less picks i j (omega arith) e)
+undone-less (Some k ∷ picks) (suc i) j h e = undone-less picks i j (omega arith) e
 
 -- choices and what is left
 module _ (m n : ℕ) where
-  pub picked-set : (sets picks : List ℕ) (i j : ℕ) → i < length picks → Picked sets m n picks → ((k : ℕ) → k < n → left sets i k ≡ 1 → k ≡ j) → Picked sets m n (set picks i j)
-  picked-set sets picks i j inside p only l h g k b e =
+  pub picked-set : (sets : List (BitSet 4)) (picks : List (Option ℕ)) (i j : ℕ) → i < length picks → j < n → Picked sets m n picks → ((k : ℕ) → k < n → left sets i k ≡ 1 → k ≡ j) → Picked sets m n (set picks i (Some j))
+  picked-set sets picks i j inside small p only =
+      let made = set picks i (Some j) in
+      let here : (l x : ℕ) → l ≡ i → pick made l ≡ Some x → j ≡ x = λ l x s e.
+      let same : Some j ≡ Some x = sym (ap (pick made) s ∙ get_or-set_same picks i (Some j) None inside) ∙ e in
+      cc in
+      let there : (l x : ℕ) → (l ≡ i → ⊥) → pick made l ≡ Some x → pick picks l ≡ Some x = λ l x s e. sym (get_or-set_other picks i l (Some j) None s) ∙ e in
+      record {
+        within = λ l h x e. ⊎_elim (λ (s : l ≡ i). omega (arith, here l x s e)) (λ s. p.within l h x (there l x s e)) (cases_eq l i);
+        alone = λ l h x e k b f. ⊎_elim
+            (λ (s : l ≡ i). only k b (ap (λ (y : ℕ). left sets y k) (sym s) ∙ f) ∙ here l x s e)
+            (λ s. p.alone l h x (there l x s e) k b f)
+            (cases_eq l i);
+      }
+
+  pub picked-fewer : (sets after : List (BitSet 4)) (picks : List (Option ℕ)) → Picked sets m n picks → Fewer sets after m n → Picked after m n picks
+  picked-fewer sets after picks p f = record { within = p.within; alone = λ l h x e k b g. p.alone l h x e k b (f l k h b g) }
+
+  pub picked-taken : {N : ℕ} (slots : List (Slot N)) (sets after : List (BitSet 4)) (picks : List (Option ℕ)) (i j : ℕ) → i < length picks → j < n → Picked sets m n picks → Taken slots m n sets i j after → Picked after m n (set picks i (Some j))
+  picked-taken slots sets after picks i j inside small p t =
+      let fewer : Fewer sets t.mid m n = λ l k h b e.
       ⊎_elim
-      (λ (s : l ≡ i).
-      only k b (ap (λ (x : ℕ). left sets x k) (sym s) ∙ e)
-      ∙ sym (ap (λ (x : ℕ). get_or (set picks i j) x 0) s ∙ get_or-set_same picks i j 0 inside))
-      (λ s.
-      let same = get_or-set_other picks i l j 0 s in
-      p l h (subst (λ (x : ℕ). x < n) same g) k b e ∙ sym same)
-      (cases_eq l i)
+      (λ (s : l ≡ i). ap (λ (x : ℕ). left sets x k) s ∙ t.narrowed.fewer k b (ap (λ (x : ℕ). left t.mid x k) (sym s) ∙ e))
+      (λ s. ap (λ (ws : List ℕ). bit_at ws k) (sym (t.others l s)) ∙ e)
+      (cases_eq l i) in
+      picked-fewer t.mid after (set picks i (Some j)) (picked-set t.mid picks i j inside small (picked-fewer sets t.mid picks p fewer) t.narrowed.only) t.pruned.fewer
 
-  pub picked-fewer : (sets after picks : List ℕ) → Picked sets m n picks → Fewer sets after m n → Picked after m n picks
-  picked-fewer sets after picks p f l h g k b e = p l h g k b (f l k h b e)
+-- whether a choice is still to be made
+abbrev pub unmade : ℕ × Option ℕ → Bool
+unmade p = not (is_some p.1)
 
-  narrowed-fewer : (sets after : List ℕ) (i j : ℕ) → n ≤ 256 → Narrowed sets after i j n → Fewer sets after m n
-  narrowed-fewer sets after i j few w l k h b e =
-      ⊎_elim
-      (λ (s : l ≡ i). ap (λ (x : ℕ). left sets x k) s ∙ w.fewer k b (ap (λ (x : ℕ). left after x k) (sym s) ∙ e))
-      (λ s. sym (w.outside (256 * l + k) (⊎_elim (λ (c : l < i). inl (omega arith)) (λ (c : i ≤ l). inr (omega (arith, s))) (cases_lt l i))) ∙ e)
-      (cases_eq l i)
+-- where none is, each is made
+pub all_made : (picks : List (Option ℕ)) (n i : ℕ) → 0 ≡ length (filter unmade (enumerate_from n picks)) → i < length picks → pick picks i ≡ Some (picked picks i)
+all_made [] n i e h = absurd (omega arith)
+all_made (None ∷ picks) n i e h = absurd (omega (arith, e))
+all_made (Some j ∷ picks) n zero e h = refl
+all_made (Some j ∷ picks) n (suc i) e h = all_made picks (n + 1) i e (omega arith)
 
-  pub picked-narrowed : (sets after picks : List ℕ) (i j : ℕ) → n ≤ 256 → i < length picks → Picked sets m n picks → Narrowed sets after i j n → Picked after m n (set picks i j)
-  picked-narrowed sets after picks i j few inside p w = picked-set after picks i j inside (picked-fewer sets after picks p (narrowed-fewer sets after i j few w)) w.only
-
-  pub picked-taken : (slots : List Slot) (labels : List (List ℕ)) (sets after picks : List ℕ) (i j : ℕ) → n ≤ 256 → i < length picks → Picked sets m n picks → Taken slots labels m n sets i j after → Picked after m n (set picks i j)
-  picked-taken slots labels sets after picks i j few inside p t =
-      picked-fewer t.mid after (set picks i j) (picked-narrowed sets t.mid picks i j few inside p t.narrowed) t.pruned.fewer
-
--- the literal chosen so far
-abbrev pub Choosing : Option ℕ → (fewest m n i : ℕ) → List ℕ → Type 0
-Choosing (Some b) fewest m n i picks = (b < m) × (n ≤ get_or picks b 0)
-Choosing None fewest m n i picks = (256 < fewest) × ((k : ℕ) → k < i → get_or picks k 0 < n)
+pub chosen_by : (o : Option ℕ) (m : ℕ) (picks : List (Option ℕ)) → ((i : ℕ) → o ≡ Some i → i < m) → ((i : ℕ) → o ≡ Some i → pick picks i ≡ None) → (o ≡ None → (i : ℕ) → i < m → pick picks i ≡ Some (picked picks i)) → Chosen o m picks
+chosen_by (Some i) m picks inside free none = (inside i refl, free i refl)
+chosen_by None m picks inside free none = none refl

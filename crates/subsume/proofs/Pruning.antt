@@ -1,50 +1,72 @@
 -- What is struck out by marks is taken by no choice that agrees with the table.
-use Rattle.std.proofs.Common.{◌≡◌, ℕ, ◌+◌, ◌*◌, ◌%◌, ◌<◌, ◌≤◌, List, [], length, get_or, sym, ap, ◌∙◌, subst, inl, inr, ⊎_elim, arith}
-use Rattle.std.proofs.lemmas.Bool.{cases_eq, cases_lt}
-use Rattle.subsume.specs.declared.prune.Slot.{Slot}
+use Rattle.std.proofs.Common.{◌≡◌, ℕ, ◌%◌, ◌<◌, List, length, get_or, set, sym, ap, ◌∙◌, subst, ⊎_elim}
+use Rattle.std.proofs.lemmas.List.{get_or-set_same, get_or-set_other, get_or_read, get_or_default}
+use Rattle.std.proofs.lemmas.Bool.{cases_eq}
+use Rattle.subsume.specs.declared.bits.BitSet.{BitSet}
+use Rattle.subsume.specs.declared.slot.Slot.{Slot}
 use Rattle.subsume.specs.Bits.{bit_at}
-use Rattle.subsume.specs.Choices.{left, entry, slot_at, Pruned, Marked, Sifted}
+use Rattle.subsume.specs.Choices.{none, row, left, slot_at, Pruned, Marked, Sifted}
 
-module _ (slots : List Slot) (labels : List (List ℕ)) (m n : ℕ) where
-  pub pruned-none : (c : List ℕ) → Pruned slots labels m n c c
+-- an element that was read from a list
+pub item : {T : Type 0} (xs ys : List T) (i : ℕ) (x d : T) → xs ≡ ys → i < length xs → x ≡ get_or xs i x → get_or ys i d ≡ x
+item xs ys i x d e h is = ap (λ (zs : List _). get_or zs i d) (sym e) ∙ sym (get_or_read xs i x h is d)
+
+pub row-read : (c : List (BitSet 4)) (i : ℕ) (r : BitSet 4) → i < length c → row c i ≡ (get_or c i r).words
+row-read c i r h = ap (λ (z : BitSet 4). z.words) (get_or_default c i none r h)
+
+-- the rows of candidates after a change of one
+pub row-set_same : (c : List (BitSet 4)) (i : ℕ) (r : BitSet 4) → i < length c → row (set c i r) i ≡ r.words
+row-set_same c i r h = ap (λ (z : BitSet 4). z.words) (get_or-set_same c i r none h)
+
+pub row-set_other : (c : List (BitSet 4)) (i k : ℕ) (r : BitSet 4) → (k ≡ i → ⊥) → row (set c i r) k ≡ row c k
+row-set_other c i k r n = ap (λ (z : BitSet 4). z.words) (get_or-set_other c i k r none n)
+
+module _ {N : ℕ} (slots : List (Slot N)) (m n : ℕ) where
+  pub pruned-none : (c : List (BitSet 4)) → Pruned slots m n c c
   pruned-none c = record { keeps = λ f v _ a. a; fewer = λ i j _ _ e. e }
 
-  pub pruned-then : (c d e : List ℕ) → Pruned slots labels m n c d → Pruned slots labels m n d e → Pruned slots labels m n c e
+  pub pruned-then : (c d e : List (BitSet 4)) → Pruned slots m n c d → Pruned slots m n d e → Pruned slots m n c e
   pruned-then c d e p q = record { keeps = λ f v fits a. q.keeps f v fits (p.keeps f v fits a); fewer = λ i j h g x. p.fewer i j h g (q.fewer i j h g x) }
 
-  module _ (few : n ≤ 256) (start c c' : List ℕ) (s t : ℕ) (marks : List ℕ)
-      (hs : s < length slots) (ht : t < length slots) (own : (slot_at slots s).literal < m)
-      (same : (slot_at slots t).variable ≡ (slot_at slots s).variable)
-      (marked : Marked start (slot_at slots s).literal (get_or labels s []) n marks)
-      (so_far : Pruned slots labels m n start c)
-      (sifted : Sifted c c' (slot_at slots t).literal (get_or labels t []) n marks)
-    where
-      away : (i j : ℕ) → (i ≡ (slot_at slots t).literal → ⊥) → j < n → left c' i j ≡ left c i j
-      away i j apart h =
-          sifted.outside (256 * i + j)
-          (⊎_elim (λ (b : i < (slot_at slots t).literal). inl (omega arith)) (λ (b : (slot_at slots t).literal ≤ i). inr (omega arith)) (cases_lt i (slot_at slots t).literal))
-
-      pub sift-prunes : Pruned slots labels m n start c'
-      sift-prunes = record {
+  pub sift-prunes : (start c : List (BitSet 4)) (slot other : Slot N) (s t : ℕ)
+      → s < length slots → slot_at slots s ≡ slot → t < length slots → slot_at slots t ≡ other
+      → slot.literal < m → other.literal < length c → other.variable ≡ slot.variable
+      → (first before marks : List ℕ) (after : BitSet 4) → row start slot.literal ≡ first → row c other.literal ≡ before
+      → Marked first slot.labels n marks → Pruned slots m n start c → Sifted before after.words other.labels n marks
+      → Pruned slots m n start (set c other.literal after)
+  sift-prunes start c slot other s t hs is-s ht is-t own inside same first before marks after is-first is-before marked so_far sifted =
+      let k = other.literal in
+      let c' = set c k after in
+      record {
         keeps = λ f v fits a.
             let among = so_far.keeps f v fits a in
+            let P : Slot N → Type 0 = λ (z : Slot N). get_or z.labels (f z.literal) 0 ≡ v z.variable in
+            let one : P slot = subst P is-s (fits s hs) in
+            let two : P other = subst P is-t (fits t ht) in
+            let o = a slot.literal own in
+            let told : get_or slot.labels (f slot.literal) 0 ≡ get_or other.labels (f k) 0 = one ∙ ap v (sym same) ∙ sym two in
+            let shown : bit_at marks (get_or other.labels (f k) 0 % 4096) ≡ 1 =
+            subst (λ (l : ℕ). bit_at marks (l % 4096) ≡ 1) told (marked (f slot.literal) o.0 (ap (λ (ws : List ℕ). bit_at ws (f slot.literal)) (sym is-first) ∙ o.1)) in
             λ i h.
             let x = among i h in (
               x.0,
               ⊎_elim
-                  (λ (e : i ≡ (slot_at slots t).literal).
-                  let o = a (slot_at slots s).literal own in
-                  let told : entry labels s (f (slot_at slots s).literal) ≡ entry labels t (f i) =
-                  fits s hs ∙ ap v (sym same) ∙ sym (fits t ht) ∙ ap (λ (l : ℕ). entry labels t (f l)) (sym e) in
-                  let shown : bit_at marks (entry labels t (f i) % 4096) ≡ 1 = subst (λ (l : ℕ). bit_at marks (l % 4096) ≡ 1) told (marked (f (slot_at slots s).literal) o.0 o.1) in
-                  ap (λ (l : ℕ). left c' l (f i)) e ∙ sifted.kept (f i) x.0 (ap (λ (l : ℕ). left c l (f i)) (sym e) ∙ x.1) shown)
-                  (λ e. away i (f i) e x.0 ∙ x.1)
-                  (cases_eq i (slot_at slots t).literal),
+                  (λ (e : i ≡ k).
+                  ap (λ (l : ℕ). left c' l (f i)) e
+                  ∙ ap (λ (ws : List ℕ). bit_at ws (f i)) (row-set_same c k after inside)
+                  ∙ sifted.kept (f i) x.0
+                  (ap (λ (ws : List ℕ). bit_at ws (f i)) (sym is-before) ∙ ap (λ (l : ℕ). left c l (f i)) (sym e) ∙ x.1)
+                  (subst (λ (l : ℕ). bit_at marks (get_or other.labels (f l) 0 % 4096) ≡ 1) (sym e) shown))
+                  (λ e. ap (λ (ws : List ℕ). bit_at ws (f i)) (row-set_other c k i after e) ∙ x.1)
+                  (cases_eq i k),
             );
         fewer = λ i j h g x.
             so_far.fewer i j h g
             (⊎_elim
-            (λ (e : i ≡ (slot_at slots t).literal). ap (λ (l : ℕ). left c l j) e ∙ sifted.fewer j g (ap (λ (l : ℕ). left c' l j) (sym e) ∙ x))
-            (λ e. sym (away i j e g) ∙ x)
-            (cases_eq i (slot_at slots t).literal));
+            (λ (e : i ≡ k).
+            ap (λ (l : ℕ). left c l j) e
+            ∙ ap (λ (ws : List ℕ). bit_at ws j) is-before
+            ∙ sifted.fewer j g (ap (λ (ws : List ℕ). bit_at ws j) (sym (row-set_same c k after inside)) ∙ ap (λ (l : ℕ). left c' l j) (sym e) ∙ x))
+            (λ e. ap (λ (ws : List ℕ). bit_at ws j) (sym (row-set_other c k i after e)) ∙ x)
+            (cases_eq i k));
       }

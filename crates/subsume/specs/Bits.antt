@@ -1,9 +1,22 @@
 -- Bits of a list of words of 64.
-use Rattle.std.specs.Prelude.{ℕ, ◌/◌, ◌%◌, ◌^◌, List, slice_index}
-
-unfoldable pub bit : (word k : ℕ) → ℕ
-bit word k = word / 2 ^ k % 2
+use Rattle.std.specs.Prelude.{◌≡◌, ℕ, ◌*◌, ◌/◌, ◌%◌, ◌<◌, List, length, slice_index, Some, None, Option, ◌≢◌}
+use Rattle.std.specs.Int.{bit_at as bit}
 
 -- 1 where k is in the set, else 0
 unfoldable pub bit_at : List ℕ → (k : ℕ) → ℕ
 bit_at words k = bit (slice_index words (k / 64)) (k % 64)
+
+-- an answer is the least number in the set; or none, where the set is empty
+abbrev pub First : List ℕ → Option ℕ → Type 0
+First words (Some k) = (k < 64 * length words) × (bit_at words k ≡ 1) × ((l : ℕ) → l < k → bit_at words l ≡ 0)
+First words None = (l : ℕ) → l < 64 * length words → bit_at words l ≡ 0
+
+-- an answer is the least number in the set, and is taken out; or none, where the set is empty, and nothing changes
+abbrev pub Popped : (before after : List ℕ) → Option ℕ → Type 0
+Popped before after (Some k) = First before (Some k) × (bit_at after k ≡ 0) × ((l : ℕ) → (l ≢ k) → bit_at after l ≡ bit_at before l)
+Popped before after None = First before None × (after ≡ before)
+
+-- an answer is in the set, and no other number is; or none, where another count of numbers is in the set
+abbrev pub Only : List ℕ → Option ℕ → Type 0
+Only words (Some k) = (k < 64 * length words) × (bit_at words k ≡ 1) × ((l : ℕ) → l < 64 * length words → bit_at words l ≡ 1 → l ≡ k)
+Only words None = (k : ℕ) → k < 64 * length words → ((l : ℕ) → l < 64 * length words → bit_at words l ≡ 1 → l ≡ k) → bit_at words k ≡ 1 → ⊥

@@ -1,82 +1,106 @@
 -- Choices of a target for each literal, and the candidates that are left.
-use Rattle.std.specs.Prelude.{◌≡◌, ℕ, suc, ◌+◌, ◌*◌, ◌%◌, ◌<◌, ◌≤◌, cond, ◌⊎◌, List, [], ◌∷◌, length, Some, None, Option, nat_lt, slice_index, slice_index_or}
-use Rattle.subsume.specs.declared.prune.Slot.{Slot}
+use Rattle.std.specs.Prelude.{◌≡◌, ℕ, suc, ◌%◌, ◌<◌, ◌≤◌, List, [], ◌∷◌, length, replicate, Some, None, Option, slice_index, slice_index_or, unwrap_or, ◌≢◌}
+use Rattle.std.proofs.Common.{lit≤}
+use Rattle.std.proofs.lemmas.List.{length-replicate}
+use Rattle.subsume.specs.declared.bits.BitSet.{BitSet}
+use Rattle.subsume.specs.declared.slot.Slot.{Slot}
 use Rattle.subsume.specs.Bits.{bit_at}
 
+-- no targets
+abbrev pub none : BitSet 4
+none = record { words = replicate 4 0; sized = length-replicate {A = ℕ} 4 0; few = lit≤ tt }
+
+-- the targets that are left for literal i
+abbrev pub row : List (BitSet 4) → (i : ℕ) → List ℕ
+row sets i = (slice_index_or sets i none).words
+
 -- 1 where the target j is left for literal i
-abbrev pub left : List ℕ → (i j : ℕ) → ℕ
-left sets i j = bit_at sets (256 * i + j)
+abbrev pub left : List (BitSet 4) → (i j : ℕ) → ℕ
+left sets i j = bit_at (row sets i) j
 
 -- each of m literals has its choice among n targets, and it is left
-abbrev pub Among : List ℕ → (m n : ℕ) → (ℕ → ℕ) → Type 0
+abbrev pub Among : List (BitSet 4) → (m n : ℕ) → (ℕ → ℕ) → Type 0
 Among sets m n f = (i : ℕ) → i < m → (f i < n) × (left sets i (f i) ≡ 1)
 
 -- nothing comes back
-abbrev pub Fewer : (before after : List ℕ) (m n : ℕ) → Type 0
+abbrev pub Fewer : (before after : List (BitSet 4)) (m n : ℕ) → Type 0
 Fewer before after m n = (i j : ℕ) → i < m → j < n → left after i j ≡ 1 → left before i j ≡ 1
 
--- the label that the target j gives the variable of slot s
-abbrev pub entry : List (List ℕ) → (s j : ℕ) → ℕ
-entry labels s j = slice_index (slice_index_or labels s []) j
+abbrev pub no_slot : (N : ℕ) → Slot N
+no_slot N = record { literal = 0; variable = 0; labels = replicate N 0; sized = length-replicate {A = ℕ} N 0 }
 
-abbrev pub slot_at : List Slot → ℕ → Slot
-slot_at slots s = slice_index_or slots s (record { literal = 0; variable = 0 })
+abbrev pub slot_at : {N : ℕ} → List (Slot N) → ℕ → Slot N
+slot_at {N} slots s = slice_index_or slots s (no_slot N)
+
+-- the label that the target j gives the variable of slot s
+abbrev pub entry : {N : ℕ} → List (Slot N) → (s j : ℕ) → ℕ
+entry slots s j = slice_index (slot_at slots s).labels j
 
 -- each slot is of one of m literals
-abbrev pub Owned : List Slot → (m : ℕ) → Type 0
+abbrev pub Owned : {N : ℕ} → List (Slot N) → (m : ℕ) → Type 0
 Owned slots m = (s : ℕ) → s < length slots → (slot_at slots s).literal < m
 
 -- a choice for each literal and a label for each variable agree with the table of labels
-abbrev pub Fits : List Slot → List (List ℕ) → (f v : ℕ → ℕ) → Type 0
-Fits slots labels f v = (s : ℕ) → s < length slots → entry labels s (f (slot_at slots s).literal) ≡ v (slot_at slots s).variable
+abbrev pub Fits : {N : ℕ} → List (Slot N) → (f v : ℕ → ℕ) → Type 0
+Fits slots f v = (s : ℕ) → s < length slots → entry slots s (f (slot_at slots s).literal) ≡ v (slot_at slots s).variable
 
 -- no choice that agrees with the table loses a candidate, and nothing comes back
-pub record Pruned (slots : List Slot) (labels : List (List ℕ)) (m n : ℕ) (before after : List ℕ) : Type 0 where
-  pub keeps : (f v : ℕ → ℕ) → Fits slots labels f v → Among before m n f → Among after m n f
+pub record Pruned {N : ℕ} (slots : List (Slot N)) (m n : ℕ) (before after : List (BitSet 4)) : Type 0 where
+  pub keeps : (f v : ℕ → ℕ) → Fits slots f v → Among before m n f → Among after m n f
   pub fewer : Fewer before after m n
 
--- the labels of the candidates left for literal i, of the first j targets, are marked
-abbrev pub Marked : List ℕ → (i : ℕ) → (row : List ℕ) → (j : ℕ) → (marks : List ℕ) → Type 0
-Marked sets i row j marks = (k : ℕ) → k < j → left sets i k ≡ 1 → bit_at marks (slice_index row k % 4096) ≡ 1
+-- the labels of the first j targets, as far as they are in the set, are marked
+abbrev pub Marked : List ℕ → (labels : List ℕ) → (j : ℕ) → (marks : List ℕ) → Type 0
+Marked words labels j marks = (k : ℕ) → k < j → bit_at words k ≡ 1 → bit_at marks (slice_index labels k % 4096) ≡ 1
 
--- of the first j targets, only such were struck out for literal k as have no marked label
-pub record Sifted (before after : List ℕ) (k : ℕ) (row : List ℕ) (j : ℕ) (marks : List ℕ) : Type 0 where
-  pub outside : (l : ℕ) → (l < 256 * k) ⊎ (256 * k + j ≤ l) → bit_at after l ≡ bit_at before l
-  pub kept : (i : ℕ) → i < j → left before k i ≡ 1 → bit_at marks (slice_index row i % 4096) ≡ 1 → left after k i ≡ 1
-  pub fewer : (i : ℕ) → i < j → left after k i ≡ 1 → left before k i ≡ 1
+-- of the first j targets, only such were struck out as have no marked label
+pub record Sifted (before after : List ℕ) (labels : List ℕ) (j : ℕ) (marks : List ℕ) : Type 0 where
+  pub outside : (l : ℕ) → j ≤ l → bit_at after l ≡ bit_at before l
+  pub kept : (i : ℕ) → i < j → bit_at before i ≡ 1 → bit_at marks (slice_index labels i % 4096) ≡ 1 → bit_at after i ≡ 1
+  pub fewer : (i : ℕ) → i < j → bit_at after i ≡ 1 → bit_at before i ≡ 1
 
--- no target but j is left for literal i
-abbrev pub Only : List ℕ → (i j : ℕ) → Type 0
-Only sets i j = (k : ℕ) → k < 256 → left sets i k ≡ 1 → k ≡ j
+-- of the first n targets, only such as are not j were struck out
+pub record Narrowed (before after : List ℕ) (j n : ℕ) : Type 0 where
+  pub outside : (l : ℕ) → n ≤ l → bit_at after l ≡ bit_at before l
+  pub here : bit_at after j ≡ bit_at before j
+  pub only : (k : ℕ) → k < n → bit_at after k ≡ 1 → k ≡ j
+  pub fewer : (k : ℕ) → k < n → bit_at after k ≡ 1 → bit_at before k ≡ 1
 
--- an answer is the only target below n that is left for literal i
-abbrev pub Settled : Option ℕ → List ℕ → (i n : ℕ) → Type 0
-Settled (Some j) sets i n = (j < n) × (j < 256) × Only sets i j
-Settled None sets i n = Unit {0}
-
--- of the first n targets, only such as are not j were struck out for literal i
-pub record Narrowed (before after : List ℕ) (i j n : ℕ) : Type 0 where
-  pub outside : (l : ℕ) → (l < 256 * i) ⊎ (256 * i + n ≤ l) → bit_at after l ≡ bit_at before l
-  pub here : bit_at after (256 * i + j) ≡ bit_at before (256 * i + j)
-  pub only : (k : ℕ) → k < n → left after i k ≡ 1 → k ≡ j
-  pub fewer : (k : ℕ) → k < n → left after i k ≡ 1 → left before i k ≡ 1
+-- an answer is the only target below n that is left
+abbrev pub Settled : Option ℕ → List ℕ → (n : ℕ) → Type 0
+Settled (Some j) words n = (j < n) × ((k : ℕ) → k < 256 → bit_at words k ≡ 1 → k ≡ j)
+Settled None words n = Unit {0}
 
 -- literal i takes the target j, and then candidates are struck out
-pub record Taken (slots : List Slot) (labels : List (List ℕ)) (m n : ℕ) (before : List ℕ) (i j : ℕ) (after : List ℕ) : Type 0 where
-  pub mid : List ℕ
-  pub narrowed : Narrowed before mid i j n
-  pub pruned : Pruned slots labels m n mid after
+pub record Taken {N : ℕ} (slots : List (Slot N)) (m n : ℕ) (before : List (BitSet 4)) (i j : ℕ) (after : List (BitSet 4)) : Type 0 where
+  pub mid : List (BitSet 4)
+  pub others : (k : ℕ) → (k ≢ i) → row mid k ≡ row before k
+  pub narrowed : Narrowed (row before i) (row mid i) j n
+  pub pruned : Pruned slots m n mid after
 
--- how many of the choices are still to be made: such as are no target
-abbrev pub undone : (n : ℕ) → List ℕ → ℕ
-undone n [] = 0
-undone n (p ∷ picks) = cond (nat_lt p n) (undone n picks) (suc (undone n picks))
+-- the choice for literal i, or none, where it is still to be made; and the same, or 0
+abbrev pub pick : List (Option ℕ) → (i : ℕ) → Option ℕ
+pick picks i = slice_index_or picks i None
+
+abbrev pub picked : List (Option ℕ) → (i : ℕ) → ℕ
+picked picks i = unwrap_or (pick picks i) 0
+
+-- each of m literals has its choice among n targets
+abbrev pub Made : List (Option ℕ) → (m n : ℕ) → Type 0
+Made picks m n = (i : ℕ) → i < m → (i < length picks) × (pick picks i ≡ Some (picked picks i)) × (picked picks i < n)
+
+-- how many of the choices are still to be made
+abbrev pub undone : List (Option ℕ) → ℕ
+undone [] = 0
+undone (Some j ∷ picks) = undone picks
+undone (None ∷ picks) = suc (undone picks)
 
 -- a literal whose choice is still to be made; or none, where all of m are made
-abbrev pub Chosen : Option ℕ → (m n : ℕ) → List ℕ → Type 0
-Chosen (Some i) m n picks = (i < m) × (n ≤ slice_index picks i)
-Chosen None m n picks = (i : ℕ) → i < m → slice_index picks i < n
+abbrev pub Chosen : Option ℕ → (m : ℕ) → List (Option ℕ) → Type 0
+Chosen (Some i) m picks = (i < m) × (pick picks i ≡ None)
+Chosen None m picks = (i : ℕ) → i < m → pick picks i ≡ Some (picked picks i)
 
--- where a choice is made, no other target is left
-abbrev pub Picked : List ℕ → (m n : ℕ) → List ℕ → Type 0
-Picked sets m n picks = (i : ℕ) → i < m → slice_index picks i < n → (k : ℕ) → k < n → left sets i k ≡ 1 → k ≡ slice_index picks i
+-- where a choice is made, it is one of n targets, and no other is left
+pub record Picked (sets : List (BitSet 4)) (m n : ℕ) (picks : List (Option ℕ)) : Type 0 where
+  pub within : (i : ℕ) → i < m → (j : ℕ) → pick picks i ≡ Some j → j < n
+  pub alone : (i : ℕ) → i < m → (j : ℕ) → pick picks i ≡ Some j → (k : ℕ) → k < n → left sets i k ≡ 1 → k ≡ j

@@ -7,4 +7,7 @@ mod link;
 mod meeting;
 mod prune;
 mod search;
+mod slot;
+mod state;
+mod table;
 mod view;

@@ -1,54 +1,46 @@
 // Walks over two words side by side, and labels of words.
-ghost use Rattle.std.specs.Prelude.{◌≡◌, ℕ, ◌<◌, ◌≤◌, length};
-ghost use Rattle.term.specs.Coding.{Whole, word_at};
+ghost use Rattle.std.specs.Prelude.{◌≡◌, ℕ, ◌<◌, ◌≤◌, length, Some};
+ghost use Rattle.term.specs.Coding.{word_at};
 ghost use Rattle.term.specs.Matched.{Turns};
 ghost use Rattle.term.specs.Words.{Word, sub};
 ghost use Rattle.subsume.specs.Meeting.{Along, Inner, Met, Stepped, number, label_of};
 
-use term::{Node, Symbol, fellows, next_word};
+use term::{Node, Symbol, WordAt, fellows};
 
-// Where the node `p` of the word at `i` is met in the word at `j`, or none where the words differ before it in a symbol.
-pub fn meet(a: &[Node], i: usize, p: usize, b: &[Node], j: usize) -> Option<usize>
-    requires left { Whole a.now × (i < length a.now) }
-    requires right { Whole b.now × (j < length b.now) }
-    requires along { Along a.now i p }
-    ensures { Met a.now i p b.now j result }
+// Where the node `p` of the word `a` is met in the word `b`, or none where the words differ before it in a symbol.
+pub fn meet(a: WordAt<'_>, p: usize, b: WordAt<'_>) -> Option<usize>
+    requires { Along a.nodes.now a.start p }
+    ensures { Met a.entry.nodes.now a.entry.start p b.entry.nodes.now b.entry.start result }
 {
-    let mut q = j;
-    for at in i..p {
-        let Some(next) = beside(a[at], b, q) else {
-            return None;
-        };
-        q = next;
+    let mut q = b.start;
+    for node in &a.nodes[a.start..p] {
+        q = beside(*node, b.at(q))?;
     }
     Some(q)
 }
 
 // One node on: what meets a variable is a whole word, and what meets a symbol is the same symbol.
-fn beside(node: Node, b: &[Node], q: usize) -> Option<usize>
-    requires { Whole b.now × (q < length b.now) }
-    ensures { Stepped node b.now q result }
+fn beside(node: Node, b: WordAt<'_>) -> Option<usize>
+    ensures { Stepped node b.entry.nodes.now b.entry.start result }
 {
     if let Node::Variable(_) = node {
-        return Some(next_word(b, q));
+        return Some(b.end());
     }
-    if fellows(node, b[q]) {
-        Some(q + 1)
+    if fellows(node, b.nodes[b.start]) {
+        Some(b.start + 1)
     } else {
         None
     }
 }
 
-// The label of the word at `i`.
-pub fn label(nodes: &[Node], i: usize) -> u16
-    requires whole { Whole nodes.now }
-    requires inside { i < length nodes.now }
-    ensures { result ≡ label_of (word_at nodes.now i) }
+// The label of a word.
+pub fn label(word: WordAt<'_>) -> u16
+    ensures { result ≡ label_of (word_at word.entry.nodes.now word.entry.start) }
 {
-    let end = next_word(nodes, i);
+    // A loop and no `fold`, since each turn relies on an invariant: the label is below 4096.
     let mut label: u32 = 0;
-    for at in i..end {
-        label = (label * 31 + number(nodes[at])) % 4096;
+    for node in &word.nodes[word.start..word.end()] {
+        label = (label * 31 + number(*node)) % 4096;
     }
     label as u16
 }
@@ -66,15 +58,10 @@ fn number(node: Node) -> u32
     }
 }
 
-// The label of the word that the target at `j` gives the node `p` of the literal at `i`.
-pub fn met_label(a: &[Node], i: usize, p: usize, b: &[Node], j: usize) -> u16
-    requires left { Whole a.now × (i < length a.now) }
-    requires right { Whole b.now × (j < length b.now) }
-    requires inside { Inner a.now i p }
-    ensures { (θ : ℕ → Word) → Turns a.now i b.now j θ → result ≡ label_of (sub θ (word_at a.now p)) }
+// The label of the word that the target `b` gives the node `p` of the literal `a`, or none where it cannot be the target.
+pub fn met_label(a: WordAt<'_>, p: usize, b: WordAt<'_>) -> Option<u16>
+    requires { Inner a.nodes.now a.start p }
+    ensures { (θ : ℕ → Word) → Turns a.entry.nodes.now a.entry.start b.entry.nodes.now b.entry.start θ → result ≡ Some (label_of (sub θ (word_at a.entry.nodes.now p))) }
 {
-    match meet(a, i, p, b, j) {
-        Some(q) => label(b, q),
-        None => 0,
-    }
+    Some(label(b.at(meet(a, p, b)?)))
 }

@@ -1,7 +1,6 @@
-use Rattle.std.proofs.Common.{◌≡◌, ◌<◌}
-use Rattle.std.specs.List.{between}
+use Rattle.std.proofs.Common.{◌≡◌, ◌<◌, drop}
 use Rattle.subsume.specs.Meeting.{mixed}
 use Rattle.subsume.proofs.meeting.label.Given as goal
 
-abbrev pub invariant-loop-at : goal.invariant-loop-at
-invariant-loop-at l = (mixed l.label (between l.at l.end l.nodes) ≡ mixed 0 (between l.i l.end l.nodes)) × (l.label < 4096)
+abbrev pub invariant-loop-node : goal.invariant-loop-node
+invariant-loop-node l = (mixed l.label (drop l.node-index l.node-items) ≡ mixed 0 l.node-items) × (l.label < 4096)

@@ -2,4 +2,4 @@ use Rattle.subsume.specs.Choices.{Narrowed}
 use Rattle.subsume.proofs.search.narrow.Given as goal
 
 abbrev pub invariant-loop-k : goal.invariant-loop-k
-invariant-loop-k l = Narrowed l.initial.sets l.sets l.i l.j l.k
+invariant-loop-k l = Narrowed l.initial.left.words l.left.words l.j l.k

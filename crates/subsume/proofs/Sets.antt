@@ -1,0 +1,56 @@
+-- What is in a set of numbers after a word of it has changed, and its least number.
+use Rattle.std.proofs.Common.{◌≡◌, ℕ, ◌+◌, ◌*◌, ◌/◌, ◌%◌, ◌^◌, ◌<◌, ◌≤◌, List, length, get_or, set, replicate, Some, None, ap, ◌∙◌, sym, ⊎_elim, arith}
+use Rattle.std.specs.Int.{w64, trailing_zeros, bit_at as bit}
+use Rattle.std.proofs.lemmas.Nat.Bits.{bit_at-zero, bit_at-trailing_zeros}
+use Rattle.std.proofs.lemmas.List.{get_or-set_same, get_or-set_other, get_or-replicate, get_or_past, length-replicate}
+use Rattle.std.proofs.lemmas.Bool.{cases_eq, cases_lt}
+use Rattle.subsume.specs.Bits.{bit_at, First}
+
+module _ (words : List ℕ) (k v : ℕ) (inside : k < 64 * length words) where
+  pub set_here : bit_at (set words (k / 64) v) k ≡ bit v (k % 64)
+  unfolding bit_at
+  set_here = ap (λ (x : ℕ). bit x (k % 64)) (get_or-set_same words (k / 64) v 0 (omega arith))
+
+  pub set_others : ((i : ℕ) → i < 64 → (i ≡ k % 64 → ⊥) → bit v i ≡ bit (get_or words (k / 64) 0) i) → (l : ℕ) → (l ≡ k → ⊥) → bit_at (set words (k / 64) v) l ≡ bit_at words l
+  unfolding bit_at
+  set_others same l n =
+      ⊎_elim
+      (λ (e : l / 64 ≡ k / 64).
+      ap (λ (z : ℕ). bit (get_or (set words (k / 64) v) z 0) (l % 64)) e
+      ∙ ap (λ (x : ℕ). bit x (l % 64)) (get_or-set_same words (k / 64) v 0 (omega arith))
+      ∙ same (l % 64) (omega arith) (λ f. n (omega arith))
+      ∙ ap (λ (z : ℕ). bit (get_or words z 0) (l % 64)) (sym e))
+      (λ e. ap (λ (x : ℕ). bit x (l % 64)) (get_or-set_other words (k / 64) (l / 64) v 0 e))
+      (cases_eq (l / 64) (k / 64))
+
+pub empty-word : (words : List ℕ) (l : ℕ) → get_or words (l / 64) 0 ≡ 0 → bit_at words l ≡ 0
+unfolding bit_at
+empty-word words l e = ap (λ (x : ℕ). bit x (l % 64)) e ∙ bit_at-zero (l % 64)
+
+pub none-in : (n k : ℕ) → bit_at (replicate n 0) k ≡ 0
+none-in n k =
+    empty-word (replicate n 0) k
+    (⊎_elim (λ (h : k / 64 < n). get_or-replicate n (k / 64) 0 0 h) (λ h. get_or_past (replicate n 0) (k / 64) 0 (omega (arith, length-replicate {A = ℕ} n 0))) (cases_lt (k / 64) n))
+
+-- the least bit of the first word that has bits
+pub first-word : (words : List ℕ) (w : ℕ) → w < length words → ((v : ℕ) → v < w → get_or words v 0 ≡ 0) → 0 < get_or words w 0 → get_or words w 0 < 2 ^ 64
+    → First words (Some (64 * w + trailing_zeros w64 (get_or words w 0)))
+unfolding bit_at
+first-word words w h before some fits =
+    let t = trailing_zeros w64 (get_or words w 0) in
+    let z = bit_at-trailing_zeros w64 (get_or words w 0) some fits in
+    let small : t < 64 = z.0 in (
+      omega arith,
+      let here : (64 * w + t) / 64 ≡ w = omega arith in
+          let place : (64 * w + t) % 64 ≡ t = omega arith in
+          rw (here, place) z.1,
+      λ l k. ⊎_elim
+          (λ (b : l / 64 < w). empty-word words l (before (l / 64) b))
+          (λ (b : w ≤ l / 64).
+          let here : l / 64 ≡ w = omega arith in
+          rw here (z.2 (l % 64) (omega arith)))
+          (cases_lt (l / 64) w),
+    )
+
+pub no-first : (words : List ℕ) → ((v : ℕ) → v < length words → get_or words v 0 ≡ 0) → First words None
+no-first words none l h = empty-word words l (none (l / 64) (omega arith))

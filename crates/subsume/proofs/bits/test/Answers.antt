@@ -1,7 +1,0 @@
-use Rattle.std.proofs.lemmas.Bool.Decides.{Decides-eqb}
-use Rattle.subsume.specs.Bits.{bit, bit_at}
-use Rattle.subsume.proofs.bits.test.Goals as goal
-
-pub returns : goal.returns
-unfolding bit bit_at
-returns c = Decides-eqb _ _

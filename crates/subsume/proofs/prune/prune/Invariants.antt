@@ -1,6 +1,0 @@
-use Rattle.bounded.specs.Elems.{elems}
-use Rattle.subsume.specs.Choices.{Pruned}
-use Rattle.subsume.proofs.prune.prune.Given as goal
-
-abbrev pub invariant-loop : goal.invariant-loop
-invariant-loop g l = Pruned (elems l.table.slots) l.table.labels l.m l.n l.initial.sets l.sets

@@ -1,5 +1,0 @@
-use Rattle.subsume.proofs.Picking.{Choosing}
-use Rattle.subsume.proofs.search.choose.Given as goal
-
-abbrev pub invariant-loop-i : goal.invariant-loop-i
-invariant-loop-i g l = Choosing l.best l.fewest l.m l.n l.i l.picks

@@ -1,6 +1,0 @@
-use Rattle.std.proofs.Common.{◌≡◌, ◌≤◌, length}
-use Rattle.subsume.specs.Choices.{Picked, undone}
-use Rattle.subsume.proofs.search.settle.Given as goal
-
-abbrev pub invariant-loop-i : goal.invariant-loop-i
-invariant-loop-i g l = Picked l.sets l.m l.n l.picks × (length l.picks ≡ g.row.N) × (undone l.n l.picks ≤ undone l.n l.initial.picks)

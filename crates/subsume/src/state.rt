@@ -1,0 +1,15 @@
+// Where the search stands: the targets that are left for each literal, and the choices that are made.
+// `Picked` stands in contracts and not here: it speaks of the table's counts too, and with copies of them here each
+// contract would have to say that they are the table's.
+// Two arrays and not one of pairs, since pruning changes the targets that are left and knows of no choices.
+ghost use Rattle.std.specs.Prelude.{◌≡◌, length};
+
+use super::table::Candidates;
+
+#[derive(Drop)]
+pub struct State<const N: usize> {
+    pub sets: Candidates,
+    pub picks: [Option<u16>; N],
+    ghost rows: { length sets ≡ 256 },
+    ghost sized: { length picks ≡ N },
+}

@@ -1,0 +1,22 @@
+// What is known of literals and targets before a choice is made: the table of labels, and the candidates.
+ghost use Rattle.std.specs.Prelude.{◌≤◌, length};
+ghost use Rattle.bounded.specs.Elems.{elems};
+ghost use Rattle.subsume.specs.Solving.{Linked};
+
+use super::bits::BitSet;
+use super::slot::Slot;
+use super::view::View;
+use bounded::Bounded;
+
+// For each of at most 256 literals, which of at most 256 targets are left for it.
+pub type Candidates = [BitSet<4>; 256];
+
+// The literals of one clause, those of another as their targets, and a slot for each variable of each literal, as far as
+// there is room.
+pub struct Table<'a, const N: usize, const K: usize> {
+    pub literals: View<'a>,
+    pub targets: View<'a>,
+    pub slots: Bounded<Slot<N>, K>,
+    ghost few: { (length literals.starts.now ≤ N) × (length targets.starts.now ≤ N) × (N ≤ 256) },
+    ghost linked: { Linked literals.nodes.now literals.starts.now targets.nodes.now targets.starts.now (elems slots) },
+}
