@@ -18,8 +18,8 @@ use Rattle.word.specs.Packed.{packed_node, packed, seen_after, node_number}
 use Rattle.word.specs.Reads.{gave, node_at, read_words, Gives, Stand, Added, Exactly}
 use Rattle.word.proofs.Laws.{packed_none, packed_more, seen_none, seen-variable, seen-symbol, lawful-none, lawful-variable, lawful-symbol, between_join}
 use Rattle.word.proofs.Back.{reads-packed}
-use Rattle.number.proofs.Answers.{clash, ok_same}
-use Rattle.word.proofs.Turns.{then-made, picked}
+use Rattle.number.proofs.Answers.{clash, ok_same, picked}
+use Rattle.word.proofs.Turns.{then-made}
 
 -- a node stands from `at` to the place after it
 record NodeStands (seen : ℕ) (input : List ℕ) (at : ℕ) (r : Read) : Type 0 where

@@ -1,7 +1,8 @@
 -- Lawful words and packed bytes, node by node.
-use Rattle.std.proofs.Common.{◌≡◌, ℕ, zero, suc, ◌+◌, ◌-◌, ◌<◌, ◌≤◌, max, true, ◌&&◌, ltb, leb, List, [], ◌∷◌, ◌++◌, length, take, drop, sym, refl, ap, ◌∙◌, append_assoc, arith, take-add}
+use Rattle.std.proofs.Common.{◌≡◌, ℕ, zero, suc, ◌+◌, ◌-◌, ◌<◌, ◌≤◌, max, true, ◌&&◌, ltb, leb, List, [], ◌∷◌, ◌++◌, length, take, drop, refl, ap, ◌∙◌, arith, take-add}
 use Rattle.std.specs.List.{between}
 use Rattle.std.proofs.lemmas.List.{drop-drop}
+use Rattle.std.proofs.lemmas.Grind.{flat_map-append}
 use Rattle.std.proofs.lemmas.Bool.{ltb-true, leb-true, eqb-true, lt-ltb, le-leb, and_parts, and_from, false≢true}
 use Rattle.term.specs.Lawful.{lawful, functional}
 use Rattle.term.specs.declared.node.Node.{Node}
@@ -79,18 +80,8 @@ between_join xs i j k h g =
 
 -- nodes after others
 pub packed-append : (nodes more : List Node) → packed (nodes ++ more) ≡ packed nodes ++ packed more
-packed-append [] more = sym (ap (λ (l : List ℕ). l ++ packed more) packed_none)
-packed-append (node ∷ nodes) more =
-    packed_more node (nodes ++ more)
-    ∙ ap (λ (l : List ℕ). packed_node node ++ l) (packed-append nodes more)
-    ∙ sym (append_assoc (packed_node node) (packed nodes) (packed more))
-    ∙ sym (ap (λ (l : List ℕ). l ++ packed more) (packed_more node nodes))
-
-pub seen-append : (nodes more : List Node) (seen : ℕ) → seen_after (nodes ++ more) seen ≡ seen_after more (seen_after nodes seen)
-unfolding seen_after
-seen-append [] more seen = refl
-seen-append (Variable x ∷ nodes) more seen = seen-append nodes more (max seen (suc x))
-seen-append (Applied s k ∷ nodes) more seen = seen-append nodes more seen
+unfolding packed
+packed-append nodes more = flat_map-append packed_node nodes more
 
 pub writable-append : (nodes more : List Node) → Writable nodes → Writable more → Writable (nodes ++ more)
 writable-append [] more w v = v

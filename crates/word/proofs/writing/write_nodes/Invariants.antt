@@ -1,5 +1,5 @@
 use Rattle.std.proofs.Common.{◌≡◌, ◌+◌, length, drop}
-use Rattle.number.proofs.Puts.{puts}
+use Rattle.std.proofs.Math.Seq.{paste}
 use Rattle.word.specs.Packed.{packed, Writable}
 use Rattle.word.proofs.writing.write_nodes.Given as goal
 
@@ -8,4 +8,4 @@ abbrev pub invariant-loop-node : goal.invariant-loop-node
 invariant-loop-node l =
     (l.to + length (packed (drop l.node-index l.nodes)) ≡ l.at + length (packed l.nodes))
     × Writable (drop l.node-index l.nodes)
-    × (puts l.out l.to (packed (drop l.node-index l.nodes)) ≡ puts l.initial.out l.at (packed l.nodes))
+    × (paste l.out l.to (packed (drop l.node-index l.nodes)) (length (packed (drop l.node-index l.nodes))) ≡ paste l.initial.out l.at (packed l.nodes) (length (packed l.nodes)))
