@@ -15,7 +15,6 @@ use Rattle.term.specs.Coding.{code, codes}
 use Rattle.term.specs.Words.{Words, nil, cons, ◌+++◌, len}
 use Rattle.term.proofs.Codings.{all_words}
 use Rattle.word.specs.Packed.{packed}
-use Rattle.word.proofs.Becoming.{became, stayed}
 use Rattle.word.proofs.Laws.{packed_none, packed-append, between_join}
 use Rattle.word.proofs.Puts.{wrote-puts}
 use Rattle.word.proofs.Turns.{then-made}
@@ -135,13 +134,6 @@ module _ (input : List ℕ) (bytes : (i : ℕ) → get_or input i 0 < 256) (befo
           value = subst (λ (R : Result Words RecordFault). Reads R before (Ok tt) r) (sym (read_all input bytes count next number (literals r) end h e g)) (refl, refl);
           exact = (held r, form-read input bytes count next number (literals r) end e g);
         }
-
--- what an answer of a read says of the definition
-pub read-gave : (R : Result Words RecordFault) (before after : Record) → Reads R before (Ok tt) after → R ≡ Ok (literals after)
-read-gave = became literals
-
-pub read-refused : (R : Result Words RecordFault) (before after : Record) (fault : RecordFault) → Reads R before (Err fault) after → R ≡ Err fault
-read-refused = stayed literals
 
 -- bytes written after a number that was left out, and then the number
 module _ (count : ℕ) (others before mid : List ℕ) (at : ℕ) (start : at ≡ length (form count)) where

@@ -3,13 +3,14 @@ use Rattle.std.proofs.Common.{◌≡◌, ℕ, zero, suc, ◌+◌, ◌-◌, ◌<�
 use Rattle.std.specs.List.{between}
 use Rattle.std.proofs.lemmas.List.{drop-drop}
 use Rattle.std.proofs.lemmas.Grind.{flat_map-append}
+use Rattle.std.proofs.lemmas.List.Elements.{All-nil, All-cons}
 use Rattle.std.proofs.lemmas.Bool.{ltb-true, leb-true, eqb-true, lt-ltb, le-leb, and_parts, and_from, false≢true}
 use Rattle.term.specs.Lawful.{lawful, functional}
 use Rattle.term.specs.declared.node.Node.{Node}
 use Rattle.term.specs.declared.node.Node.TheVariants.{Variable, Applied}
 use Rattle.term.specs.declared.node.Symbol.{Symbol}
 use Rattle.term.specs.declared.node.Symbol.TheVariants.{Function, Positive, Negative}
-use Rattle.word.specs.Packed.{packed_node, packed, seen_after, Writable}
+use Rattle.word.specs.Packed.{packed_node, packed, seen_after, Small, Writable}
 
 pub packed_none : packed [] ≡ []
 unfolding packed
@@ -83,19 +84,15 @@ pub packed-append : (nodes more : List Node) → packed (nodes ++ more) ≡ pack
 unfolding packed
 packed-append nodes more = flat_map-append packed_node nodes more
 
-pub writable-append : (nodes more : List Node) → Writable nodes → Writable more → Writable (nodes ++ more)
-writable-append [] more w v = v
-writable-append (node ∷ nodes) more w v = (w.0, writable-append nodes more w.1 v)
-
 -- few lawful words are writable
 pub lawful-writable : (nodes : List Node) (need seen : ℕ) → lawful nodes need seen ≡ true → seen + length nodes ≤ 32768 → Writable nodes
-lawful-writable [] need seen l h = tt
+lawful-writable [] need seen l h = All-nil Small
 lawful-writable (Variable x ∷ nodes) need seen l h =
     let p = variable-lawful x nodes need seen l in
-    (omega (arith, p.1), lawful-writable nodes (need - 1) (max seen (suc x)) p.2 (omega (arith, p.1)))
+    All-cons Small (Variable x) nodes (omega (arith, p.1)) (lawful-writable nodes (need - 1) (max seen (suc x)) p.2 (omega (arith, p.1)))
 lawful-writable (Applied (Function f) k ∷ nodes) need seen l h =
     let p = symbol-lawful (Function f) k nodes need seen l in
-    (leb-true f 32767 p.1, lawful-writable nodes (need - 1 + k) seen p.3 (omega arith))
+    All-cons Small (Applied (Function f) k) nodes (leb-true f 32767 p.1) (lawful-writable nodes (need - 1 + k) seen p.3 (omega arith))
 lawful-writable (Applied (Positive q) k ∷ nodes) need seen l h = absurd (false≢true (symbol-lawful (Positive q) k nodes need seen l).1)
 lawful-writable (Applied (Negative q) k ∷ nodes) need seen l h = absurd (false≢true (symbol-lawful (Negative q) k nodes need seen l).1)
 
