@@ -48,8 +48,8 @@ clause-writable (cons (app s us) ls) seen l o h =
     let p = numbered-parts seen (varss us) (varss ls) o in
     All-cons Small (Applied s (len us)) (codes us ++ codes ls) (symbol-small s l.0.0)
     (All-append Small (codes us) (codes ls)
-        (lawful-writable (codes us) (len us) seen (lawful-all us seen p.0 l.0.2) (omega (arith, length-codes us)))
-        (clause-writable ls (stood seen (varss us)) l.1 p.1 (omega (arith, stood-few seen (varss us) p.0, varss-few us))))
+    (lawful-writable (codes us) (len us) seen (lawful-all us seen p.0 l.0.2) (omega (arith, length-codes us)))
+    (clause-writable ls (stood seen (varss us)) l.1 p.1 (omega (arith, stood-few seen (varss us) p.0, varss-few us))))
 
 -- a predicate is that of its first number, which is small
 predicate-back : (s : Symbol) → predicative s ≡ true → (predicate_of (packed_symbol s) ≡ s) × (packed_symbol s ≤ 65535)

@@ -95,15 +95,3 @@ lawful-writable (Applied (Function f) k ∷ nodes) need seen l h =
     All-cons Small (Applied (Function f) k) nodes (leb-true f 32767 p.1) (lawful-writable nodes (need - 1 + k) seen p.3 (omega arith))
 lawful-writable (Applied (Positive q) k ∷ nodes) need seen l h = absurd (false≢true (symbol-lawful (Positive q) k nodes need seen l).1)
 lawful-writable (Applied (Negative q) k ∷ nodes) need seen l h = absurd (false≢true (symbol-lawful (Negative q) k nodes need seen l).1)
-
--- the variables that have stood: no more than one for each node
-pub seen_few : (nodes : List Node) (need seen : ℕ) → lawful nodes need seen ≡ true → (seen ≤ seen_after nodes seen) × (seen_after nodes seen ≤ seen + length nodes)
-unfolding seen_after
-seen_few [] need seen l = (omega arith, omega arith)
-seen_few (Variable x ∷ nodes) need seen l =
-    let p = variable-lawful x nodes need seen l in
-    let q = seen_few nodes (need - 1) (max seen (suc x)) p.2 in
-    (omega (arith, q.0), omega (arith, p.1, q.1))
-seen_few (Applied s k ∷ nodes) need seen l =
-    let q = seen_few nodes (need - 1 + k) seen (symbol-lawful s k nodes need seen l).3 in
-    (q.0, omega (arith, q.1))
