@@ -1,6 +1,7 @@
 -- The byte of a fault lies within the bytes read, or at their end.
 use Rattle.std.proofs.Common.{ℕ, zero, suc, ◌+◌, ◌/◌, ◌%◌, ◌<◌, ◌≤◌, Bool, true, false, cond, eqb, ltb, leb, List, [], ◌∷◌, length, drop, Ok, Err, Result, arith}
 use Rattle.std.proofs.lemmas.List.{length-drop}
+use Rattle.std.proofs.lemmas.Bool.{cond_both}
 use Rattle.number.specs.declared.fault.NumberFault.{NumberFault}
 use Rattle.number.specs.Faults as numbers
 use Rattle.number.specs.Reads.{read_number, first, second, third}
@@ -15,11 +16,6 @@ use Rattle.place.specs.declared.fault.PlaceFault.TheVariants.{Word}
 use Rattle.place.specs.Faults.{told}
 use Rattle.place.specs.Packing.{read_place}
 
--- what holds of both arms holds of the one that is taken
-either : {X : Type 0} (P : X → Type 0) (b : Bool) (x y : X) → P x → P y → P (cond b x y)
-either P true x y p q = p
-either P false x y p q = q
-
 -- what an answer and then the next one give
 then-holds : {X Y E F : Type 0} (P : Result X E → Type 0) (Q : Result Y F → Type 0) (f : E → F) (r : Result X E) (next : X → Result Y F)
     → P r → ((x : X) → P (Ok x) → Q (next x)) → ((e : E) → P (Err e) → Q (Err (f e))) → Q (then f r next)
@@ -33,18 +29,18 @@ NumberBy at n (Err fault) = (numbers.told fault).1 ≤ n
 
 third-by : (low middle : ℕ) (bytes : List ℕ) (at end : ℕ) → at + 2 + length bytes ≤ end → NumberBy at end (third low middle bytes at end)
 third-by low middle [] at end h = omega arith
-third-by low middle (high ∷ bytes) at end h = either (NumberBy at end) (ltb high 4) _ _ (either (NumberBy at end) (eqb high 0) _ _ (omega arith) (omega arith, omega arith)) (omega arith)
+third-by low middle (high ∷ bytes) at end h = cond_both (ltb high 4) _ _ (NumberBy at end) (λ _. cond_both (eqb high 0) _ _ (NumberBy at end) (λ _. omega arith) (λ _. (omega arith, omega arith))) (λ _. omega arith)
 
 second-by : (low : ℕ) (bytes : List ℕ) (at end : ℕ) → at + 1 + length bytes ≤ end → NumberBy at end (second low bytes at end)
 second-by low [] at end h = omega arith
 second-by low (middle ∷ bytes) at end h =
-    either (NumberBy at end) (ltb middle 128) _ _ (either (NumberBy at end) (eqb middle 0) _ _ (omega arith) (omega arith, omega arith)) (third-by low middle bytes at end (omega arith))
+    cond_both (ltb middle 128) _ _ (NumberBy at end) (λ _. cond_both (eqb middle 0) _ _ (NumberBy at end) (λ _. omega arith) (λ _. (omega arith, omega arith))) (λ _. third-by low middle bytes at end (omega arith))
 
 first_by : (bytes : List ℕ) (at end : ℕ) → (0 < length bytes → at + length bytes ≤ end) → NumberBy at end (first bytes at end)
 first_by [] at end h = omega arith
 first_by (low ∷ bytes) at end h =
     let k : at + suc (length bytes) ≤ end = h (omega arith) in
-    either (NumberBy at end) (ltb low 128) _ _ (omega arith, omega arith) (second-by low bytes at end (omega arith))
+    cond_both (ltb low 128) _ _ (NumberBy at end) (λ _. (omega arith, omega arith)) (λ _. second-by low bytes at end (omega arith))
 
 module _ (input : List ℕ) where
   number_by : (at : ℕ) → NumberBy at (length input) (read_number input at)
@@ -98,4 +94,4 @@ module _ (input : List ℕ) where
 
   pub place-by : PlaceBy (read_place input)
   unfolding read_place
-  place-by = then-holds WordsBy PlaceBy Word (read_words 1 64 0 input 0 []) _ (words-by 1 64 0 0 [] (omega arith)) (λ p b. either PlaceBy (ltb p.1 (length input)) _ _ b tt) (λ e b. b)
+  place-by = then-holds WordsBy PlaceBy Word (read_words 1 64 0 input 0 []) _ (words-by 1 64 0 0 [] (omega arith)) (λ p b. cond_both (ltb p.1 (length input)) _ _ PlaceBy (λ _. b) (λ _. tt)) (λ e b. b)

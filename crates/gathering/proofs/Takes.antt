@@ -1,5 +1,5 @@
 -- What a class has taken, call by call.
-use Rattle.std.proofs.Common.{◌≡◌, ℕ, List, [], ◌∷◌, ◌++◌, IfOk, Ok, Err, codes, Result, sym, refl, ap, ◌∙◌, subst, arith}
+use Rattle.std.proofs.Common.{◌≡◌, ℕ, List, [], ◌∷◌, ◌++◌, Ok, Err, codes, sym, refl, ap, ◌∙◌, subst, arith}
 use Rattle.class.specs.declared.classes.Class.{Class}
 use Rattle.class.specs.declared.kind.Refusal.{Refusal}
 use Rattle.class.specs.Calls.{Admitted}
@@ -77,8 +77,3 @@ ruled ms c p out g e o =
     let below = subst (λ (q : PlaceWord). Least places (meaning q) ms) (sym e) (least ms c g) in
     subst (λ (l : List Word). Ruled ([], l) out) (sym s.2)
     (meaning p, subst (Least places (meaning p)) s.2 below, (held p).order, o)
-
--- what holds of all that a call made
-pub made-on : {X E : Type 0} (P Q : X → Type 0) (r : Result X E) → IfOk r P → ((x : X) → P x → Q x) → IfOk r Q
-made-on P Q (Ok x) h k = k x h
-made-on P Q (Err e) h k = tt

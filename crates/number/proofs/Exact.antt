@@ -1,13 +1,13 @@
 -- Reading is exact: a form is read as its value, and what is read is a form.
-use Rattle.std.proofs.Common.{◌≡◌, ℕ, zero, suc, ◌+◌, ◌-◌, ◌*◌, ◌%◌, ◌<◌, ◌≤◌, cond, eqb, ltb, ◌⊎◌, List, [], ◌∷◌, ◌++◌, length, get_or, take, drop, IfOk, Ok, Err, Result, sym, refl, ap, ◌∙◌, subst, inl, inr, arith}
+use Rattle.std.proofs.Common.{◌≡◌, ℕ, ◌+◌, ◌-◌, ◌*◌, ◌%◌, ◌<◌, ◌≤◌, true, false, eqb, ltb, List, [], ◌∷◌, ◌++◌, length, get_or, take, drop, IfOk, Ok, Err, Result, sym, refl, ap, ◌∙◌, subst, inl, inr, arith}
 use Rattle.std.specs.List.{between}
 use Rattle.std.proofs.lemmas.List.{take-append-drop, length-drop, drop_all, get_or-drop, take_rest}
-use Rattle.std.proofs.lemmas.Bool.{cases_lt, lt-ltb, le-ltb, ne_eqb}
+use Rattle.std.proofs.lemmas.Bool.{lt-ltb, le-ltb, ne_eqb, ltb-true, ltb-false, eqb-false}
 use Rattle.number.specs.declared.fault.NumberFault.{NumberFault}
 use Rattle.number.specs.declared.fault.NumberFault.TheVariants.{Missing}
 use Rattle.number.specs.Forms.{form, Form}
 use Rattle.number.specs.Reads.{first, read_number, Exactly}
-use Rattle.number.proofs.Answers.{clash, ok_same}
+use Rattle.number.proofs.Answers.{clash, ok_same, picked}
 use Rattle.number.proofs.Linkages.{some-value}
 use Rattle.number.proofs.Formed.{only-form}
 
@@ -32,45 +32,37 @@ reads-form v (a ∷ (b ∷ (c ∷ (d ∷ bytes)))) rest at end f = absurd (omega
 abbrev Stands : List ℕ → ℕ → ℕ × ℕ → Type 0
 Stands input at p = (n : ℕ) × (p.1 ≡ at + n) × (0 < n) × (n ≤ length input) × Form p.0 (take n input)
 
--- which way a test of the definition went
-picked : {X : Type 0} (m n : ℕ) (x y z : X) → cond (ltb m n) x y ≡ z → ((m < n) × (x ≡ z)) ⊎ ((n ≤ m) × (y ≡ z))
-picked m n x y z e = elim (cases_lt m n) [ inl h ↦ inl (h, rw (lt-ltb m n h) at e) | inr h ↦ inr (h, rw (le-ltb m n h) at e) ]
-
-picked-zero : {X : Type 0} (n : ℕ) (x y z : X) → cond (eqb n 0) x y ≡ z → (x ≡ z) ⊎ ((0 < n) × (y ≡ z))
-picked-zero zero x y z e = inl e
-picked-zero (suc n) x y z e = inr (omega arith, rw (ne_eqb (suc n) 0 (λ z. omega arith)) at e)
-
-one : (a : ℕ) (xs : List ℕ) (at : ℕ) (p : ℕ × ℕ) → a < 128 → (a, at + 1) ≡ p → Stands (a ∷ xs) at p
+one : (a : ℕ) (xs : List ℕ) (at : ℕ) (p : ℕ × ℕ) → ltb a 128 ≡ true → (a, at + 1) ≡ p → Stands (a ∷ xs) at p
 one a xs at p h e =
-    subst (Stands (a ∷ xs) at) e (1, refl, omega arith, omega arith, record { says = omega arith; range = omega arith; linked = h; exact = λ k. absurd (omega arith) })
+    subst (Stands (a ∷ xs) at) e (1, refl, omega arith, omega arith, let small = ltb-true a 128 h in record { says = omega arith; range = omega arith; linked = small; exact = λ k. absurd (omega arith) })
 
-two : (a b : ℕ) (xs : List ℕ) (at : ℕ) (p : ℕ × ℕ) → 128 ≤ a → a < 256 → b < 128 → 0 < b → (a % 128 + 128 * b, at + 2) ≡ p → Stands (a ∷ (b ∷ xs)) at p
+two : (a b : ℕ) (xs : List ℕ) (at : ℕ) (p : ℕ × ℕ) → ltb a 128 ≡ false → a < 256 → ltb b 128 ≡ true → eqb b 0 ≡ false → (a % 128 + 128 * b, at + 2) ≡ p → Stands (a ∷ (b ∷ xs)) at p
 two a b xs at p h g k some e =
-    subst (Stands (a ∷ (b ∷ xs)) at) e (2, refl, omega arith, omega arith, record { says = omega arith; range = omega arith; linked = (h, g, k); exact = λ _. some })
+    subst (Stands (a ∷ (b ∷ xs)) at) e (2, refl, omega arith, omega arith, let small = ltb-true b 128 k in record { says = omega arith; range = omega arith; linked = (ltb-false a 128 h, g, small); exact = λ _. omega (arith, eqb-false b 0 some) })
 
-three : (a b c : ℕ) (xs : List ℕ) (at : ℕ) (p : ℕ × ℕ) → 128 ≤ a → a < 256 → 128 ≤ b → b < 256 → c < 4 → 0 < c → (a % 128 + 128 * (b % 128) + 16384 * c, at + 3) ≡ p → Stands (a ∷ (b ∷ (c ∷ xs))) at p
+three : (a b c : ℕ) (xs : List ℕ) (at : ℕ) (p : ℕ × ℕ) → ltb a 128 ≡ false → a < 256 → ltb b 128 ≡ false → b < 256 → ltb c 4 ≡ true → eqb c 0 ≡ false → (a % 128 + 128 * (b % 128) + 16384 * c, at + 3) ≡ p → Stands (a ∷ (b ∷ (c ∷ xs))) at p
 three a b c xs at p h g k l small some e =
-    subst (Stands (a ∷ (b ∷ (c ∷ xs))) at) e (3, refl, omega arith, omega arith, record { says = omega arith; range = omega arith; linked = (h, g, (k, l, omega arith)); exact = λ _. some })
+    subst (Stands (a ∷ (b ∷ (c ∷ xs))) at) e (3, refl, omega arith, omega arith, let few = ltb-true c 4 small in record { says = omega arith; range = omega arith; linked = (ltb-false a 128 h, g, (ltb-false b 128 k, l, omega arith)); exact = λ _. omega (arith, eqb-false c 0 some) })
 
 -- what is read is a form
 reads-stands : (input : List ℕ) (at end : ℕ) (p : ℕ × ℕ) → ((i : ℕ) → get_or input i 0 < 256) → first input at end ≡ Ok p → Stands input at p
 reads-stands [] at end p h e = absurd (clash _ p e)
-reads-stands (a ∷ []) at end p h e = elim (picked a 128 _ _ _ e) [ inl s ↦ one a [] at p s.0 (ok_same _ p s.1) | inr s ↦ absurd (clash _ p s.1) ]
+reads-stands (a ∷ []) at end p h e = elim (picked (ltb a 128) _ _ _ e) [ inl s ↦ one a [] at p s.0 (ok_same _ p s.1) | inr s ↦ absurd (clash _ p s.1) ]
 reads-stands (a ∷ (b ∷ [])) at end p h e =
-    elim (picked a 128 _ _ _ e) [
+    elim (picked (ltb a 128) _ _ _ e) [
       | inl s ↦ one a (b ∷ []) at p s.0 (ok_same _ p s.1)
-      | inr s ↦ elim (picked b 128 _ _ _ s.1) [
-        | inl t ↦ elim (picked-zero b _ _ _ t.1) [ inl u ↦ absurd (clash _ p u) | inr u ↦ two a b [] at p s.0 (h 0) t.0 u.0 (ok_same _ p u.1) ]
+      | inr s ↦ elim (picked (ltb b 128) _ _ _ s.1) [
+        | inl t ↦ elim (picked (eqb b 0) _ _ _ t.1) [ inl u ↦ absurd (clash _ p u.1) | inr u ↦ two a b [] at p s.0 (h 0) t.0 u.0 (ok_same _ p u.1) ]
         | inr t ↦ absurd (clash _ p t.1)
       ]
     ]
 reads-stands (a ∷ (b ∷ (c ∷ xs))) at end p h e =
-    elim (picked a 128 _ _ _ e) [
+    elim (picked (ltb a 128) _ _ _ e) [
       | inl s ↦ one a (b ∷ (c ∷ xs)) at p s.0 (ok_same _ p s.1)
-      | inr s ↦ elim (picked b 128 _ _ _ s.1) [
-        | inl t ↦ elim (picked-zero b _ _ _ t.1) [ inl u ↦ absurd (clash _ p u) | inr u ↦ two a b (c ∷ xs) at p s.0 (h 0) t.0 u.0 (ok_same _ p u.1) ]
-        | inr t ↦ elim (picked c 4 _ _ _ t.1) [
-          | inl u ↦ elim (picked-zero c _ _ _ u.1) [ inl w ↦ absurd (clash _ p w) | inr w ↦ three a b c xs at p s.0 (h 0) t.0 (h 1) u.0 w.0 (ok_same _ p w.1) ]
+      | inr s ↦ elim (picked (ltb b 128) _ _ _ s.1) [
+        | inl t ↦ elim (picked (eqb b 0) _ _ _ t.1) [ inl u ↦ absurd (clash _ p u.1) | inr u ↦ two a b (c ∷ xs) at p s.0 (h 0) t.0 u.0 (ok_same _ p u.1) ]
+        | inr t ↦ elim (picked (ltb c 4) _ _ _ t.1) [
+          | inl u ↦ elim (picked (eqb c 0) _ _ _ u.1) [ inl w ↦ absurd (clash _ p w.1) | inr w ↦ three a b c xs at p s.0 (h 0) t.0 (h 1) u.0 w.0 (ok_same _ p w.1) ]
           | inr u ↦ absurd (clash _ p u.1)
         ]
       ]

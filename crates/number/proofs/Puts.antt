@@ -1,5 +1,5 @@
 -- Bytes put into a buffer one after the other.
-use Rattle.std.proofs.Common.{◌≡◌, ℕ, suc, ◌+◌, ◌-◌, ◌/◌, ◌%◌, ◌^◌, ◌<◌, ◌≤◌, List, [], ◌∷◌, ◌++◌, length, take, drop, set, Ok, sym, refl, ap, ◌∙◌, append_assoc, pow-suc, arith, length-set, length-append}
+use Rattle.std.proofs.Common.{◌≡◌, ℕ, suc, ◌+◌, ◌-◌, ◌/◌, ◌%◌, ◌^◌, ◌<◌, ◌≤◌, List, [], ◌∷◌, ◌++◌, length, take, drop, set, Ok, sym, refl, ap, ◌∙◌, append_assoc, pow-suc, arith, length-append}
 use Rattle.std.proofs.lemmas.List.{take-append-drop, take_more_set, drop-set-lt, drop_at, length-take-le, length-drop, take_all}
 use Rattle.std.proofs.lemmas.Slice.{take-put_mid, drop-put_mid}
 use borrow.Rule.Slice.PartMut.{put_mid}
@@ -8,21 +8,6 @@ use Rattle.number.specs.Forms.{spread, form, Form}
 use Rattle.number.specs.Reads.{first, read_number}
 use Rattle.number.proofs.Formed.{length-form, has-form}
 use Rattle.number.proofs.Exact.{reads-form}
-
-abbrev pub puts : List ℕ → ℕ → List ℕ → List ℕ
-puts out i [] = out
-puts out i (b ∷ bytes) = puts (set out i b) (i + 1) bytes
-
--- the buffer before and beyond stays
-pub puts-is : (out : List ℕ) (i : ℕ) (bytes : List ℕ) → i + length bytes ≤ length out → puts out i bytes ≡ take i out ++ (bytes ++ drop (i + length bytes) out)
-puts-is out i [] h = let e : i + 0 ≡ i = omega arith in rw e (sym (take-append-drop i out))
-puts-is out i (b ∷ bytes) h =
-    let n = i + 1 + length bytes in
-    let beyond : i + suc (length bytes) ≡ n = omega arith in
-    let front : take (i + 1) (set out i b) ≡ take i out ++ b ∷ [] = take_more_set out i b (omega arith) in
-    let back : drop n (set out i b) ≡ drop n out = drop-set-lt n out i b (omega arith) in
-    let rest = puts-is (set out i b) (i + 1) bytes (omega (arith, length-set out i b)) in
-    rw beyond (rest ∙ rw (front, back) (append_assoc (take i out) (b ∷ []) (bytes ++ drop n out)))
 
 -- one byte more of a number that is spread over n bytes and a last one
 pub spread-more : (items : List ℕ) (n i rest : ℕ) → i < length items → i < n

@@ -11,7 +11,6 @@ use Rattle.word.specs.Packed.{packed, seen_after}
 use Rattle.word.specs.Reads.{read_words, Gives, Added}
 use Rattle.word.proofs.Laws.{lawful-writable}
 use Rattle.number.proofs.Answers.{clash}
-use Rattle.word.proofs.Becoming.{became, stayed}
 use Rattle.word.proofs.Back.{reads-packed}
 use Rattle.word.proofs.Turns.{gave-fault, gave-words}
 use Rattle.place.specs.declared.fault.PlaceFault.{PlaceFault}
@@ -82,10 +81,3 @@ module _ (input : List ℕ) (before : PlaceWord) (new nodes : List Node) (none :
           value = subst (λ (R : Result (List Node) PlaceFault). Reads R before (Ok tt) after) (sym (read_all input nodes end seen gave h)) (refl, same);
           exact = ap packed same ∙ ap packed (sym all) ∙ sym a.stand.bytes ∙ take_all (end - 0) input (omega arith);
         }
-
--- what an answer of a read says of the definition
-pub read-gave : (R : Result (List Node) PlaceFault) (before after : PlaceWord) → Reads R before (Ok tt) after → R ≡ Ok (code (meaning after))
-read-gave = became (λ p. code (meaning p))
-
-pub read-refused : (R : Result (List Node) PlaceFault) (before after : PlaceWord) (fault : PlaceFault) → Reads R before (Err fault) after → R ≡ Err fault
-read-refused = stayed (λ p. code (meaning p))

@@ -11,9 +11,10 @@ use Rattle.term.specs.declared.node.Symbol.{Symbol}
 use Rattle.term.specs.declared.node.Symbol.TheVariants.{Function, Positive, Negative}
 use Rattle.term.proofs.Codings.{all_words, decode-all, length-codes}
 use Rattle.term.proofs.Laws.{numbered-parts, stood-more, lawful-all}
-use Rattle.word.specs.Packed.{packed_symbol, packed_node, packed, symbol_number, Writable}
+use Rattle.std.proofs.lemmas.List.Elements.{All-nil, All-cons, All-append}
+use Rattle.word.specs.Packed.{packed_symbol, packed_node, packed, symbol_number, Small, Writable}
 use Rattle.word.proofs.Back.{reads_at, beyond, reads-packed}
-use Rattle.word.proofs.Laws.{packed_none, packed_more, packed-append, writable-append, lawful-writable}
+use Rattle.word.proofs.Laws.{packed_none, packed_more, packed-append, lawful-writable}
 use Rattle.record.specs.Clauses.{predicative, Literal, Literals, variables, stands, distinct, Clause}
 use Rattle.record.specs.Reads.{predicate_of, head_at, read_literal, read_literals, read_record, clause_form}
 use Rattle.record.proofs.Tests.{varss-push, order-push}
@@ -41,15 +42,14 @@ symbol-small (Positive p) e = leb-true p 32767 e
 symbol-small (Negative p) e = leb-true p 32767 e
 
 pub clause-writable : (ls : Words) (seen : ℕ) → Literals ls → Numbered seen (varss ls) → seen + sizes ls ≤ 32768 → Writable (codes ls)
-clause-writable nil seen l o h = tt
+clause-writable nil seen l o h = All-nil Small
 clause-writable (cons (var x) ls) seen l o h = absurd l.0
 clause-writable (cons (app s us) ls) seen l o h =
-    let p = numbered-parts seen (varss us) (varss ls) o in (
-      symbol-small s l.0.0,
-      writable-append (codes us) (codes ls)
-          (lawful-writable (codes us) (len us) seen (lawful-all us seen p.0 l.0.2) (omega (arith, length-codes us)))
-          (clause-writable ls (stood seen (varss us)) l.1 p.1 (omega (arith, stood-few seen (varss us) p.0, varss-few us))),
-    )
+    let p = numbered-parts seen (varss us) (varss ls) o in
+    All-cons Small (Applied s (len us)) (codes us ++ codes ls) (symbol-small s l.0.0)
+    (All-append Small (codes us) (codes ls)
+    (lawful-writable (codes us) (len us) seen (lawful-all us seen p.0 l.0.2) (omega (arith, length-codes us)))
+    (clause-writable ls (stood seen (varss us)) l.1 p.1 (omega (arith, stood-few seen (varss us) p.0, varss-few us))))
 
 -- a predicate is that of its first number, which is small
 predicate-back : (s : Symbol) → predicative s ≡ true → (predicate_of (packed_symbol s) ≡ s) × (packed_symbol s ≤ 65535)

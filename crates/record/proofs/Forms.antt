@@ -11,12 +11,10 @@ use Rattle.number.specs.Reads.{read_number}
 use Rattle.number.specs.Writes.{Wrote}
 use Rattle.number.proofs.Exact.{number-stands}
 use Rattle.number.proofs.Answers.{clash, ok_same}
-use Rattle.number.proofs.Puts.{puts-is}
 use Rattle.term.specs.Coding.{code, codes}
 use Rattle.term.specs.Words.{Words, nil, cons, ◌+++◌, len}
 use Rattle.term.proofs.Codings.{all_words}
 use Rattle.word.specs.Packed.{packed}
-use Rattle.word.proofs.Becoming.{became, stayed}
 use Rattle.word.proofs.Laws.{packed_none, packed-append, between_join}
 use Rattle.word.proofs.Puts.{wrote-puts}
 use Rattle.word.proofs.Turns.{then-made}
@@ -137,13 +135,6 @@ module _ (input : List ℕ) (bytes : (i : ℕ) → get_or input i 0 < 256) (befo
           exact = (held r, form-read input bytes count next number (literals r) end e g);
         }
 
--- what an answer of a read says of the definition
-pub read-gave : (R : Result Words RecordFault) (before after : Record) → Reads R before (Ok tt) after → R ≡ Ok (literals after)
-read-gave = became literals
-
-pub read-refused : (R : Result Words RecordFault) (before after : Record) (fault : RecordFault) → Reads R before (Err fault) after → R ≡ Err fault
-read-refused = stayed literals
-
 -- bytes written after a number that was left out, and then the number
 module _ (count : ℕ) (others before mid : List ℕ) (at : ℕ) (start : at ≡ length (form count)) where
   long : length (form count ++ others) ≡ at + length others
@@ -160,7 +151,7 @@ module _ (count : ℕ) (others before mid : List ℕ) (at : ℕ) (start : at ≡
       ap length w.2 ∙ length-append (take at before) (others ++ drop end before) ∙ omega (arith, size, length-append others (drop end before), length-drop end before, w.0, w.1) in
       let fits : 0 + length first ≤ length mid = omega (arith, w.0, w.1) in
       let begins : 0 + length first ≡ at = omega arith in
-      let put = (wrote-puts (form count) 0 mid r after v fits).1 ∙ puts-is mid 0 first fits in
+      let put = (wrote-puts (form count) 0 mid r after v fits).1 in
       let rest : drop (0 + length first) mid ≡ others ++ drop end before =
       ap₂ drop begins w.2 ∙ drop_at (take at before) (others ++ drop end before) at size in
       (omega (arith, w.0, long), w.1, put ∙ ap (λ (l : List ℕ). first ++ l) rest ∙ sym (append_assoc first others (drop end before)))

@@ -4,7 +4,7 @@ use Rattle.std.specs.List.{between}
 use Rattle.std.proofs.lemmas.Bool.{cond_both, leb-true, ltb-true, le-leb, eqb-true, eqb-false}
 use Rattle.number.specs.Forms.{form}
 use Rattle.number.specs.Reads.{read_number}
-use Rattle.number.proofs.Answers.{clash, ok_same}
+use Rattle.number.proofs.Answers.{clash, ok_same, picked}
 use Rattle.term.specs.Coding.{code, decode}
 use Rattle.term.specs.Lawful.{lawful, Numbered}
 use Rattle.term.specs.Words.{Word, app, Words, size, sizes, vars}
@@ -18,7 +18,7 @@ use Rattle.word.specs.Packed.{packed_symbol, packed_node, packed}
 use Rattle.word.specs.Reads.{read_words}
 use Rattle.word.proofs.Exact.{words-added}
 use Rattle.word.proofs.Laws.{packed_more, between_join}
-use Rattle.word.proofs.Turns.{then-made, picked}
+use Rattle.word.proofs.Turns.{then-made}
 use Rattle.record.specs.declared.fault.LiteralFault.{LiteralFault}
 use Rattle.record.specs.declared.fault.LiteralFault.TheVariants.{Number as InNumber, Word as InWord}
 use Rattle.record.specs.declared.literal.Head.{Head}

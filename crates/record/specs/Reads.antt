@@ -1,5 +1,5 @@
 -- Reading a record: the questions, literal by literal, in the order in which they are asked.
-use Rattle.std.specs.Prelude.{◌≡◌, ℕ, zero, suc, ◌-◌, ◌/◌, ◌%◌, ◌<◌, cond, List, [], ◌∷◌, ◌++◌, length, take, Ok, Err, Result, ◌==◌, ◌≢◌, nat_le, nat_lt}
+use Rattle.std.specs.Prelude.{◌≡◌, ℕ, zero, suc, ◌-◌, ◌/◌, ◌%◌, ◌<◌, cond, List, [], ◌∷◌, ◌++◌, length, take, Ok, Err, Result, ◌==◌, ◌≢◌, nat_le, nat_lt, All}
 use Rattle.number.specs.Forms.{form}
 use Rattle.number.specs.Reads.{read_number}
 use Rattle.term.specs.Coding.{code, codes, decode, word_at}
@@ -28,8 +28,7 @@ words_from nodes (i ∷ is) = cons (word_at nodes i) (words_from nodes is)
 
 -- each place is below n
 abbrev pub Inside : ℕ → List ℕ → Type 0
-Inside n [] = Unit {0}
-Inside n (i ∷ is) = (i < n) × Inside n is
+Inside n = All (λ i. i < n)
 
 -- the predicate of a literal's first number: an even one is positive, an odd one negative
 abbrev pub predicate_of : ℕ → Symbol

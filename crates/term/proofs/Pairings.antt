@@ -1,5 +1,6 @@
 -- Pairs of places as a table of pairs of words.
 use Rattle.std.proofs.Common.{◌≡◌, ℕ, zero, suc, ◌<◌, List, [], ◌∷◌, ◌++◌, length, get_or, sym, refl, ap, subst, arith}
+use Rattle.std.proofs.lemmas.List.Elements.{All-nil}
 use Rattle.term.specs.declared.join.Pair.{Pair}
 use Rattle.term.specs.declared.node.Node.{Node}
 use Rattle.term.specs.Words.{Word}
@@ -13,23 +14,11 @@ none = record { left = 0; right = 0 }
 
 module _ (a b : List Node) where
   pub inside-none : (pairs : List Pair) → pairs ≡ [] → Inside a b pairs
-  unfolding Inside
-  inside-none pairs e = subst (Inside a b) (sym e) tt
+  inside-none pairs e = subst (Inside a b) (sym e) (All-nil (λ (p : Pair). (p.left < length a) × (p.right < length b)))
 
   pub mean-none : (pairs : List Pair) → pairs ≡ [] → mean a b pairs ≡ []
   unfolding mean
   mean-none pairs e = ap (mean a b) e
-
-  pub inside-at : (pairs : List Pair) (k : ℕ) (d : Pair) → Inside a b pairs → k < length pairs → ((get_or pairs k d).left < length a) × ((get_or pairs k d).right < length b)
-  unfolding Inside
-  inside-at [] k d w h = absurd (omega arith)
-  inside-at (p ∷ pairs) zero d w h = (w.0, w.1)
-  inside-at (p ∷ pairs) (suc k) d w h = inside-at pairs k d w.2 (omega arith)
-
-  pub inside-push : (pairs : List Pair) (p : Pair) → Inside a b pairs → p.left < length a → p.right < length b → Inside a b (pairs ++ p ∷ [])
-  unfolding Inside
-  inside-push [] p w h k = (h, k, tt)
-  inside-push (q ∷ pairs) p w h k = (w.0, w.1, inside-push pairs p w.2 h k)
 
   module _ (u v : Word) where
     -- the pair p stands for u and v

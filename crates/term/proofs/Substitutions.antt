@@ -1,10 +1,6 @@
 -- Substitutions, and covering among words as a relation.
-use mathlib.Core.List.Memᴰ.{append_left as in_left}
-use mathlib.Core.List.Memᴰ.{append_right as in_right}
-use mathlib.Core.List.Memᴰ.{head as here}
-use mathlib.Core.List.{Memᴰ as In}
 use Rattle.std.proofs.Common.{◌≡◌, ℕ, suc, ◌<◌, ◌≤◌, sym, refl, ap, ◌∙◌, ap₂, arith}
-use Rattle.term.specs.Words.{Word, var, app, Words, nil, cons, len, size, sizes, vars, varss, sub, subs, Covers}
+use Rattle.term.specs.Words.{Word, var, app, Words, nil, cons, len, size, sizes, sub, subs, Covers}
 
 mutual
   pub sub-var : (u : Word) → sub var u ≡ u
@@ -24,16 +20,6 @@ module _ (σ θ : ℕ → Word) where
     pub subs-subs : (us : Words) → subs σ (subs θ us) ≡ subs (λ x. sub σ (θ x)) us
     subs-subs nil = refl
     subs-subs (cons u us) = ap₂ cons (sub-sub u) (subs-subs us)
-
-  -- only the variables that stand in a word count
-  mutual
-    pub sub-on : (u : Word) → ((x : ℕ) → In x (vars u) → σ x ≡ θ x) → sub σ u ≡ sub θ u
-    sub-on (var x) h = h x (here refl)
-    sub-on (app s us) h = ap (app s) (subs-on us h)
-
-    pub subs-on : (us : Words) → ((x : ℕ) → In x (varss us) → σ x ≡ θ x) → subs σ us ≡ subs θ us
-    subs-on nil h = refl
-    subs-on (cons u us) h = ap₂ cons (sub-on u (λ x i. h x (in_left (varss us) i))) (subs-on us (λ x i. h x (in_right (vars u) i)))
 
 pub len-subs : (θ : ℕ → Word) (us : Words) → len (subs θ us) ≡ len us
 len-subs θ nil = refl

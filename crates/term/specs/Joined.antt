@@ -1,5 +1,5 @@
 -- What a join of the words at two places leaves.
-use Rattle.std.specs.Prelude.{◌≡◌, ℕ, ◌+◌, ◌-◌, ◌<◌, ◌≤◌, List, [], ◌∷◌, ◌++◌, length}
+use Rattle.std.specs.Prelude.{◌≡◌, ℕ, ◌+◌, ◌-◌, ◌<◌, ◌≤◌, List, [], ◌∷◌, ◌++◌, length, All}
 use Rattle.term.specs.declared.join.Pair.{Pair}
 use Rattle.term.specs.declared.node.Node.{Node}
 use Rattle.term.specs.declared.node.Node.TheVariants.{Variable, Applied}
@@ -12,9 +12,8 @@ mean a b [] = []
 mean a b (p ∷ pairs) = (word_at a p.left, word_at b p.right) ∷ mean a b pairs
 
 -- each pair stands inside the two
-unfoldable pub Inside : List Node → List Node → List Pair → Type 0
-Inside a b [] = Unit {0}
-Inside a b (p ∷ pairs) = (p.left < length a) × (p.right < length b) × Inside a b pairs
+abbrev pub Inside : List Node → List Node → List Pair → Type 0
+Inside a b = All (λ p. (p.left < length a) × (p.right < length b))
 
 -- two nodes are the same symbol
 abbrev pub Fellows : Node → Node → Type 0

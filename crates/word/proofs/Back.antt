@@ -11,7 +11,8 @@ use Rattle.term.specs.declared.node.Node.{Node}
 use Rattle.term.specs.declared.node.Node.TheVariants.{Variable, Applied}
 use Rattle.term.specs.declared.node.Symbol.TheVariants.{Function, Positive, Negative}
 use Rattle.word.specs.declared.reading.Read.{Read}
-use Rattle.word.specs.Packed.{packed_node, packed, seen_after, Writable}
+use Rattle.std.proofs.lemmas.List.Elements.{All-head, All-tail}
+use Rattle.word.specs.Packed.{packed_node, packed, seen_after, Small, Writable}
 use Rattle.word.specs.Reads.{gave, node_at, read_words}
 use Rattle.word.proofs.Laws.{packed_none, packed_more, seen_none, seen-variable, seen-symbol, none-lawful, variable-lawful, symbol-lawful}
 use Rattle.word.proofs.Puts.{length_more}
@@ -64,11 +65,11 @@ reads-packed (Variable x ∷ nodes) need room seen input rest at acc w l h e =
     let here : drop at input ≡ bytes ++ (packed nodes ++ rest) = e ∙ ap (λ (b : List ℕ). b ++ rest) (packed_more (Variable x) nodes) ∙ append_assoc bytes (packed nodes) rest in
     let z : need - 1 + 0 ≡ need - 1 = omega arith in
     node-first need room seen input at acc nodes (2 * x, next) (gave (Variable x) 0 next (max seen (suc x))) p.0 (omega arith)
-    (reads_at input (packed nodes ++ rest) at (2 * x) (omega (arith, w.0)) here)
+    (reads_at input (packed nodes ++ rest) at (2 * x) (omega (arith, All-head Small _ nodes w)) here)
     (variable-at seen input at x next p.1)
     refl
     (seen-variable x nodes seen)
-    (reads-packed nodes (need - 1 + 0) (room - 1) (max seen (suc x)) input rest next (acc ++ Variable x ∷ []) w.1 (rw z p.2) (omega arith) (beyond input bytes (packed nodes ++ rest) at here))
+    (reads-packed nodes (need - 1 + 0) (room - 1) (max seen (suc x)) input rest next (acc ++ Variable x ∷ []) (All-tail Small (Variable x) nodes w) (rw z p.2) (omega arith) (beyond input bytes (packed nodes ++ rest) at here))
 reads-packed (Applied (Function f) k ∷ nodes) need room seen input rest at acc w l h e =
     let p = symbol-lawful (Function f) k nodes need seen l in
     let one = form (2 * f + 1) in
@@ -79,10 +80,10 @@ reads-packed (Applied (Function f) k ∷ nodes) need room seen input rest at acc
     e ∙ ap (λ (b : List ℕ). b ++ rest) (packed_more (Applied (Function f) k) nodes) ∙ append_assoc (one ++ two) (packed nodes) rest ∙ append_assoc one two (packed nodes ++ rest) in
     let there : drop next input ≡ two ++ (packed nodes ++ rest) = beyond input one (two ++ (packed nodes ++ rest)) at here in
     node-first need room seen input at acc nodes (2 * f + 1, next) (gave (Applied (Function f) k) k to seen) p.0 (omega arith)
-    (reads_at input (two ++ (packed nodes ++ rest)) at (2 * f + 1) (omega (arith, w.0)) here)
+    (reads_at input (two ++ (packed nodes ++ rest)) at (2 * f + 1) (omega (arith, All-head Small _ nodes w)) here)
     (symbol-at seen input at f k next to p.2 (reads_at input (packed nodes ++ rest) next k (omega (arith, p.2)) there))
     (omega (arith, length-append one two))
     (seen-symbol (Function f) k nodes seen)
-    (reads-packed nodes (need - 1 + k) (room - 1) seen input rest to (acc ++ Applied (Function f) k ∷ []) w.1 p.3 (omega arith) (beyond input two (packed nodes ++ rest) next there))
+    (reads-packed nodes (need - 1 + k) (room - 1) seen input rest to (acc ++ Applied (Function f) k ∷ []) (All-tail Small (Applied (Function f) k) nodes w) p.3 (omega arith) (beyond input two (packed nodes ++ rest) next there))
 reads-packed (Applied (Positive q) k ∷ nodes) need room seen input rest at acc w l h e = absurd (false≢true (symbol-lawful (Positive q) k nodes need seen l).1)
 reads-packed (Applied (Negative q) k ∷ nodes) need room seen input rest at acc w l h e = absurd (false≢true (symbol-lawful (Negative q) k nodes need seen l).1)

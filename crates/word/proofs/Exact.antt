@@ -14,12 +14,13 @@ use Rattle.term.specs.declared.node.Symbol.TheVariants.{Function}
 use Rattle.word.specs.declared.fault.WordFault.{WordFault}
 use Rattle.word.specs.declared.fault.WordFault.TheVariants.{Number}
 use Rattle.word.specs.declared.reading.Read.{Read}
-use Rattle.word.specs.Packed.{packed_node, packed, seen_after, node_number}
+use Rattle.std.proofs.lemmas.List.Elements.{All-nil, All-cons}
+use Rattle.word.specs.Packed.{packed_node, packed, seen_after, node_number, Small}
 use Rattle.word.specs.Reads.{gave, node_at, read_words, Gives, Stand, Added, Exactly}
 use Rattle.word.proofs.Laws.{packed_none, packed_more, seen_none, seen-variable, seen-symbol, lawful-none, lawful-variable, lawful-symbol, between_join}
 use Rattle.word.proofs.Back.{reads-packed}
-use Rattle.number.proofs.Answers.{clash, ok_same}
-use Rattle.word.proofs.Turns.{then-made, picked}
+use Rattle.number.proofs.Answers.{clash, ok_same, picked}
+use Rattle.word.proofs.Turns.{then-made}
 
 -- a node stands from `at` to the place after it
 record NodeStands (seen : ℕ) (input : List ℕ) (at : ℕ) (r : Read) : Type 0 where
@@ -81,7 +82,7 @@ node-stands seen input at bytes p r e d =
 no_words : (room seen : ℕ) (input : List ℕ) (at : ℕ) (acc : List Node) → Added 0 room seen input at at seen acc acc
 no_words room seen input at acc = record {
   nodes = [];
-  stand = record { words = lawful-none 0 seen refl; writable = tt; fits = omega arith; bytes = between_none input at ∙ sym packed_none };
+  stand = record { words = lawful-none 0 seen refl; writable = All-nil Small; fits = omega arith; bytes = between_none input at ∙ sym packed_none };
   added = sym (append-nil acc);
   counted = sym (seen_none seen);
   forward = omega arith;
@@ -97,7 +98,7 @@ node-before need room seen input at to new acc after r s w =
       nodes = r.node ∷ w.nodes;
       stand = record {
         words = s.words w.nodes (suc need) (omega arith) (rw less w.stand.words);
-        writable = (s.small, w.stand.writable);
+        writable = All-cons Small r.node w.nodes s.small w.stand.writable;
         fits = omega (arith, w.stand.fits);
         bytes = between_join input at r.next to s.forward w.forward ∙ rw (s.bytes, w.stand.bytes) (sym (packed_more r.node w.nodes));
       };

@@ -1,14 +1,16 @@
 -- Lawful words and packed bytes, node by node.
-use Rattle.std.proofs.Common.{◌≡◌, ℕ, zero, suc, ◌+◌, ◌-◌, ◌<◌, ◌≤◌, max, true, ◌&&◌, ltb, leb, List, [], ◌∷◌, ◌++◌, length, take, drop, sym, refl, ap, ◌∙◌, append_assoc, arith, take-add}
+use Rattle.std.proofs.Common.{◌≡◌, ℕ, zero, suc, ◌+◌, ◌-◌, ◌<◌, ◌≤◌, max, true, ◌&&◌, ltb, leb, List, [], ◌∷◌, ◌++◌, length, take, drop, refl, ap, ◌∙◌, arith, take-add}
 use Rattle.std.specs.List.{between}
 use Rattle.std.proofs.lemmas.List.{drop-drop}
+use Rattle.std.proofs.lemmas.Grind.{flat_map-append}
+use Rattle.std.proofs.lemmas.List.Elements.{All-nil, All-cons}
 use Rattle.std.proofs.lemmas.Bool.{ltb-true, leb-true, eqb-true, lt-ltb, le-leb, and_parts, and_from, false≢true}
 use Rattle.term.specs.Lawful.{lawful, functional}
 use Rattle.term.specs.declared.node.Node.{Node}
 use Rattle.term.specs.declared.node.Node.TheVariants.{Variable, Applied}
 use Rattle.term.specs.declared.node.Symbol.{Symbol}
 use Rattle.term.specs.declared.node.Symbol.TheVariants.{Function, Positive, Negative}
-use Rattle.word.specs.Packed.{packed_node, packed, seen_after, Writable}
+use Rattle.word.specs.Packed.{packed_node, packed, seen_after, Small, Writable}
 
 pub packed_none : packed [] ≡ []
 unfolding packed
@@ -79,43 +81,17 @@ between_join xs i j k h g =
 
 -- nodes after others
 pub packed-append : (nodes more : List Node) → packed (nodes ++ more) ≡ packed nodes ++ packed more
-packed-append [] more = sym (ap (λ (l : List ℕ). l ++ packed more) packed_none)
-packed-append (node ∷ nodes) more =
-    packed_more node (nodes ++ more)
-    ∙ ap (λ (l : List ℕ). packed_node node ++ l) (packed-append nodes more)
-    ∙ sym (append_assoc (packed_node node) (packed nodes) (packed more))
-    ∙ sym (ap (λ (l : List ℕ). l ++ packed more) (packed_more node nodes))
-
-pub seen-append : (nodes more : List Node) (seen : ℕ) → seen_after (nodes ++ more) seen ≡ seen_after more (seen_after nodes seen)
-unfolding seen_after
-seen-append [] more seen = refl
-seen-append (Variable x ∷ nodes) more seen = seen-append nodes more (max seen (suc x))
-seen-append (Applied s k ∷ nodes) more seen = seen-append nodes more seen
-
-pub writable-append : (nodes more : List Node) → Writable nodes → Writable more → Writable (nodes ++ more)
-writable-append [] more w v = v
-writable-append (node ∷ nodes) more w v = (w.0, writable-append nodes more w.1 v)
+unfolding packed
+packed-append nodes more = flat_map-append packed_node nodes more
 
 -- few lawful words are writable
 pub lawful-writable : (nodes : List Node) (need seen : ℕ) → lawful nodes need seen ≡ true → seen + length nodes ≤ 32768 → Writable nodes
-lawful-writable [] need seen l h = tt
+lawful-writable [] need seen l h = All-nil Small
 lawful-writable (Variable x ∷ nodes) need seen l h =
     let p = variable-lawful x nodes need seen l in
-    (omega (arith, p.1), lawful-writable nodes (need - 1) (max seen (suc x)) p.2 (omega (arith, p.1)))
+    All-cons Small (Variable x) nodes (omega (arith, p.1)) (lawful-writable nodes (need - 1) (max seen (suc x)) p.2 (omega (arith, p.1)))
 lawful-writable (Applied (Function f) k ∷ nodes) need seen l h =
     let p = symbol-lawful (Function f) k nodes need seen l in
-    (leb-true f 32767 p.1, lawful-writable nodes (need - 1 + k) seen p.3 (omega arith))
+    All-cons Small (Applied (Function f) k) nodes (leb-true f 32767 p.1) (lawful-writable nodes (need - 1 + k) seen p.3 (omega arith))
 lawful-writable (Applied (Positive q) k ∷ nodes) need seen l h = absurd (false≢true (symbol-lawful (Positive q) k nodes need seen l).1)
 lawful-writable (Applied (Negative q) k ∷ nodes) need seen l h = absurd (false≢true (symbol-lawful (Negative q) k nodes need seen l).1)
-
--- the variables that have stood: no more than one for each node
-pub seen_few : (nodes : List Node) (need seen : ℕ) → lawful nodes need seen ≡ true → (seen ≤ seen_after nodes seen) × (seen_after nodes seen ≤ seen + length nodes)
-unfolding seen_after
-seen_few [] need seen l = (omega arith, omega arith)
-seen_few (Variable x ∷ nodes) need seen l =
-    let p = variable-lawful x nodes need seen l in
-    let q = seen_few nodes (need - 1) (max seen (suc x)) p.2 in
-    (omega (arith, q.0), omega (arith, p.1, q.1))
-seen_few (Applied s k ∷ nodes) need seen l =
-    let q = seen_few nodes (need - 1 + k) seen (symbol-lawful s k nodes need seen l).3 in
-    (q.0, omega (arith, q.1))

@@ -1,11 +1,11 @@
 -- Reading words, node by node.
-use Rattle.std.proofs.Common.{◌≡◌, ℕ, zero, suc, ◌+◌, ◌-◌, ◌/◌, ◌%◌, ◌<◌, ◌≤◌, Bool, true, false, cond, eqb, leb, ◌⊎◌, List, [], ◌∷◌, ◌++◌, Ok, Err, Result, sym, refl, ap, inl, inr, sub-one, arith}
+use Rattle.std.proofs.Common.{◌≡◌, ℕ, zero, suc, ◌+◌, ◌-◌, ◌/◌, ◌%◌, ◌<◌, ◌≤◌, eqb, leb, List, [], ◌∷◌, ◌++◌, Ok, Err, Result, sym, refl, ap, inl, inr, sub-one, arith}
 use Rattle.std.proofs.lemmas.Bool.{leb-true}
 use Rattle.number.specs.declared.fault.NumberFault.{NumberFault}
 use Rattle.number.specs.Reads.{read_number}
 use Rattle.term.specs.declared.node.Node.{Node}
 use Rattle.word.specs.declared.fault.WordFault.{WordFault}
-use Rattle.number.proofs.Answers.{clash, ok_same}
+use Rattle.number.proofs.Answers.{clash, ok_same, picked}
 use Rattle.word.specs.declared.fault.WordFault.TheVariants.{Number, Nodes}
 use Rattle.word.specs.declared.reading.Read.{Read}
 use Rattle.word.specs.Reads.{node_at, read_words, Gives}
@@ -15,11 +15,6 @@ use Rattle.word.specs.Then.{then}
 pub then-made : {X Y E F : Type 0} (f : E → F) (r : Result X E) (next : X → Result Y F) (y : Y) → then f r next ≡ Ok y → (x : X) × (r ≡ Ok x) × (next x ≡ Ok y)
 then-made f (Ok x) next y e = (x, refl, e)
 then-made f (Err d) next y e = absurd (clash (f d) y e)
-
--- which way a test of the definition went
-pub picked : {X : Type 0} (b : Bool) (x y z : X) → cond b x y ≡ z → ((b ≡ true) × (x ≡ z)) ⊎ ((b ≡ false) × (y ≡ z))
-picked true x y z e = inl (refl, e)
-picked false x y z e = inr (refl, e)
 
 -- no more words are needed
 pub words-none : (need room seen : ℕ) (input : List ℕ) (at : ℕ) (acc : List Node) → need ≡ 0 → read_words need room seen input at acc ≡ Ok (acc, at, seen)

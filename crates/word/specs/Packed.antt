@@ -1,5 +1,5 @@
 -- The packed form of nodes.
-use Rattle.std.specs.Prelude.{ℕ, suc, ◌+◌, ◌*◌, ◌≤◌, max, List, [], ◌∷◌, ◌++◌}
+use Rattle.std.specs.Prelude.{ℕ, suc, ◌+◌, ◌*◌, ◌≤◌, max, List, [], ◌∷◌, ◌++◌, All}
 use Rattle.std.specs.List.{flat_map}
 use Rattle.number.specs.Forms.{form}
 use Rattle.term.specs.declared.node.Node.{Node}
@@ -39,7 +39,10 @@ abbrev pub node_number : Node → ℕ
 node_number (Variable x) = x
 node_number (Applied s k) = symbol_number s
 
--- twice the number of each node is a packed number, and so is one more
+-- twice the number of the node is a packed number, and so is one more
+abbrev pub Small : Node → Type 0
+Small node = node_number node ≤ 32767
+
+-- each of the nodes is so
 abbrev pub Writable : List Node → Type 0
-Writable [] = Unit {0}
-Writable (node ∷ nodes) = (node_number node ≤ 32767) × Writable nodes
+Writable = All Small

@@ -5,7 +5,7 @@ use Rattle.term.specs.Words.{Words}
 use Rattle.term.proofs.Codings.{whole-all, length-codes}
 use Rattle.record.specs.Reads.{Inside, words_from}
 use Rattle.record.specs.Records.{literals}
-use Rattle.record.proofs.Places.{inside-begins, inside-at, from_all}
+use Rattle.record.proofs.Places.{inside-begins, from_all}
 use Rattle.listing.specs.Shown.{separated, shown, each, shown_clause}
 use Rattle.listing.proofs.Separated.{one_more, none_left, separated-words}
 use Rattle.listing.proofs.records.show_record.Goals as goal
@@ -17,7 +17,7 @@ invariant_of-show_word c =
     let starts = c.starts-starts.result.now in
     let same = c.nodes-nodes.ensures.value in
     let inside = subst (Inside (length nodes)) (sym c.starts-starts.ensures) (inside-begins 0 (length nodes) ls (omega (arith, ap length same, length-codes ls))) in
-    record { whole = subst Whole (sym same) (whole-all ls); inside = inside-at (length nodes) starts c.loop-k.k inside c.loop-k-test.true }
+    record { whole = subst Whole (sym same) (whole-all ls); inside = inside c.loop-k.k 0 c.loop-k-test.true }
 
 pub loop-k-preserved : goal.loop-k-preserved
 loop-k-preserved c =

@@ -1,24 +1,13 @@
-use Rattle.std.proofs.Common.{length, sym, refl, ap, ◌∙◌, subst, arith}
+use Rattle.std.proofs.Common.{◌<◌, length, sym, refl, ap, ◌∙◌, subst, arith}
 use Rattle.std.proofs.lemmas.List.{length_push}
+use Rattle.std.proofs.lemmas.List.Elements.{All-push}
 use Rattle.bounded.specs.Elems.{elems}
 use Rattle.bounded.proofs.Rooms.{pushed_room}
 use Rattle.term.specs.declared.join.Pair.{Pair}
 use Rattle.term.specs.Coding.{word_at}
 use Rattle.term.specs.Joined.{mean, Inside}
-use Rattle.term.proofs.Pairings.{none, inside-at, inside-push, found, missing}
+use Rattle.term.proofs.Pairings.{none, found, missing}
 use Rattle.term.proofs.join.variable_of.Goals as goal
-
-pub at-requires : goal.at-requires
-at-requires g c =
-    let a = c.args.a.nodes.now in
-    let b = c.args.b.nodes.now in
-    (inside-at a b c.as_slice-pair-items.result.now c.loop-k.k none (subst (Inside a b) (sym c.as_slice-pair-items.ensures.value) c.requires.known) (omega arith)).0
-
-pub at-requires-then-is_same : goal.at-requires-then-is_same
-at-requires-then-is_same g c =
-    let a = c.args.a.nodes.now in
-    let b = c.args.b.nodes.now in
-    (inside-at a b c.as_slice-pair-items.result.now c.loop-k.k none (subst (Inside a b) (sym c.as_slice-pair-items.ensures.value) c.requires.known) (omega arith)).1
 
 pub returns-then-is_same-2 : goal.returns-then-is_same-2
 returns-then-is_same-2 g c =
@@ -45,6 +34,6 @@ returns g c =
     record {
       number = rw (sym e) (c.len-count.ensures.value ∙ sym (ap length e) ∙ sym f.0);
       table = ap (mean a b) new ∙ rw (sym e) (sym f.1);
-      known = subst (Inside a b) (sym new) (inside-push a b old p c.requires.known c.args.a.inside c.args.b.inside);
+      known = subst (Inside a b) (sym new) (All-push (λ (q : Pair). (q.left < length a) × (q.right < length b)) old p c.requires.known (c.args.a.inside, c.args.b.inside));
       size = omega (arith, ap length new, length_push old p);
     }

@@ -1,20 +1,14 @@
-use Rattle.std.proofs.Common.{◌≡◌, ℕ, zero, suc, ◌≤◌, ◌<◌, ◌^◌, List, [], ◌∷◌, length, get_or, sym, refl, ◌∙◌, subst, arith, rules}
+use Rattle.std.proofs.Common.{◌≡◌, ◌≤◌, ◌^◌, length, sym, refl, ◌∙◌, subst, arith, rules}
 use Rattle.std.specs.List.{sum_by}
 use Rattle.std.proofs.lemmas.Iterator.{YieldsList-from_slice}
 use Rattle.std.proofs.lemmas.Iterator.Adapters.{fits_from_length, at_most_from_yields_List, serves_from_places}
 use Rattle.std.proofs.lemmas.List.Concat.{length-flat_map}
-use Rattle.term.specs.declared.node.Node.{Node}
-use Rattle.word.specs.Packed.{packed, packed_node, node_number, Writable}
+use Rattle.word.specs.Packed.{packed, packed_node, node_number}
 use Rattle.word.proofs.writing.packed_length.Goals as goal
-
-writable-at : (nodes : List Node) → Writable nodes → (k : ℕ) → k < length nodes → (d : Node) → node_number (get_or nodes k d) ≤ 32767
-writable-at [] w k h d = absurd (omega arith)
-writable-at (n ∷ nodes) w zero h d = w.0
-writable-at (n ∷ nodes) w (suc k) h d = writable-at nodes w.1 k (omega arith) d
 
 pub sum-requires-clause-can : goal.sum-requires-clause-can
 sum-requires-clause-can c =
-    (tt, serves_from_places (YieldsList-from_slice c.args.nodes.now cc) (λ x q r. refl) (λ x k h e. λ _ _ _ _ _ _. subst (λ n. node_number n ≤ 32767) (sym e) (writable-at c.args.nodes.now c.requires k h x.now)))
+    (tt, serves_from_places (YieldsList-from_slice c.args.nodes.now cc) (λ x q r. refl) (λ x k h e. λ _ _ _ _ _ _. subst (λ n. node_number n ≤ 32767) (sym e) (c.requires k x.now h)))
 
 pub sum-requires-clause-fits : goal.sum-requires-clause-fits
 sum-requires-clause-fits c =

@@ -1,10 +1,11 @@
-use Rattle.std.proofs.Common.{◌≡◌, ◌+◌, ◌≤◌, [], ◌∷◌, ◌++◌, length, get_or, take, drop, Ok, sym, ap, ◌∙◌, subst, arith}
+use Rattle.std.proofs.Common.{◌≡◌, ◌+◌, ◌≤◌, [], ◌∷◌, ◌++◌, length, get_or, take, drop, Ok, sym, refl, ap, ◌∙◌, arith}
 use Rattle.std.proofs.lemmas.List.{drop_more, drop_all, drop_at, length-take-le}
-use Rattle.number.proofs.Puts.{puts, puts-is}
+use Rattle.std.proofs.lemmas.List.Edits.{paste_none, paste_all}
+use Rattle.std.proofs.Math.Seq.{paste}
 use Rattle.term.specs.declared.node.Node.TheVariants.{Variable}
-use Rattle.word.specs.Packed.{packed_node, packed, seen_after, Writable}
+use Rattle.word.specs.Packed.{packed_node, packed, seen_after}
 use Rattle.word.proofs.Laws.{packed_none, packed_more}
-use Rattle.word.proofs.Puts.{length_more, puts-join}
+use Rattle.word.proofs.Puts.{length_more, two-puts}
 use Rattle.word.proofs.Back.{reads-packed}
 use Rattle.number.proofs.Answers.{ok_same}
 use Rattle.word.proofs.writing.write_nodes.Goals as goal
@@ -17,7 +18,7 @@ write_node-requires c =
     let more : drop i nodes ≡ node ∷ drop (i + 1) nodes = drop_more nodes i (Variable 0) (omega arith) in
     let long = ap (λ l. length (packed l)) more ∙ length_more node (drop (i + 1) nodes) in
     record {
-      number = (subst Writable more c.loop-node.invariant.1).0;
+      number = c.requires i (Variable 0) (omega arith);
       room = omega (arith, long, c.packed_length-length.ensures);
     }
 
@@ -33,9 +34,8 @@ loop-node-preserved c =
     let split : packed (drop i nodes) ≡ packed_node node ++ rest = ap packed more ∙ packed_more node (drop (i + 1) nodes) in
     let long = ap (λ l. length (packed l)) more ∙ length_more node (drop (i + 1) nodes) in
     let next : c.in_ok-to.to ≡ to + length (packed_node node) = ok_same _ _ c.in_ok-to.ensures.place in
-    let put : c.write_node.new.out ≡ puts out to (packed_node node) = c.write_node.ensures.puts ∙ sym (puts-is out to (packed_node node) (omega (arith, c.packed_length-length.ensures))) in
-    let same : puts c.write_node.new.out c.in_ok-to.to rest ≡ puts out to (packed (drop i nodes)) = rw (put, next, split) (sym (puts-join out to (packed_node node) rest)) in
-    (omega arith, (subst Writable more c.loop-node.invariant.1).1, same ∙ c.loop-node.invariant.2)
+    let same = two-puts out c.write_node.new.out (packed_node node) rest to c.in_ok-to.to (omega (arith, c.packed_length-length.ensures)) next c.write_node.ensures.puts ∙ ap (λ l. paste out to l (length l)) (sym split) in
+    (omega arith, same ∙ c.loop-node.invariant.1)
 
 pub returns : goal.returns
 returns c =
@@ -48,7 +48,7 @@ returns c =
     let place : to ≡ at + length (packed nodes) = omega (arith, ap length none) in
     let inside : to ≤ length before = omega (arith, c.packed_length-length.ensures) in
     let put : out ≡ take at before ++ (packed nodes ++ drop to before) =
-    sym (ap (puts out to) none) ∙ c.loop-node.invariant.2 ∙ puts-is before at (packed nodes) (omega arith) ∙ ap (λ n. take at before ++ (packed nodes ++ drop n before)) (sym place) in
+    paste_none out to [] ∙ sym (ap (λ l. paste out to l (length l)) none) ∙ c.loop-node.invariant.1 ∙ paste_all before at (packed nodes) (length (packed nodes)) refl ∙ ap (λ n. take at before ++ (packed nodes ++ drop n before)) (sym place) in
     let stands : drop at out ≡ packed nodes ++ drop to before = ap (drop at) put ∙ drop_at (take at before) (packed nodes ++ drop to before) at (length-take-le at before (omega arith)) in
     record {
       wrote = (place, inside, put);
