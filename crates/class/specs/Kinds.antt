@@ -1,5 +1,4 @@
 -- What a kind is, and what it owes.
-use Rattle.std.specs.List.{AllByRecursion}
 use Rattle.std.specs.Prelude.{◌≡◌, List, [], ◌∷◌, Ok, Err, Result}
 use Rattle.class.specs.declared.kind.Refusal.{Refusal}
 
@@ -25,7 +24,8 @@ module _ {Thing : Type 0} (k : Subject Thing) where
 
   -- m covers each of ns
   abbrev pub Over : k.member → List k.member → Type 0
-  Over m = AllByRecursion (k.above m)
+  Over m [] = Unit {0}
+  Over m (n ∷ ns) = k.above m n × Over m ns
 
   -- m is least over ns: it covers them all, and every member that covers them all covers it
   pub record Least (m : k.member) (ns : List k.member) : Type 0 where
