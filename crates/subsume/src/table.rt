@@ -13,6 +13,7 @@ pub type Candidates = [BitSet<4>; 256];
 
 // The literals of one clause, those of another as their targets, and a slot for each variable of each literal, as far as
 // there is room.
+#[derive(Drop)]
 pub struct Table<'a, const N: usize, const K: usize> {
     pub literals: View<'a>,
     pub targets: View<'a>,
