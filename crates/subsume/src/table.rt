@@ -18,6 +18,7 @@ pub struct Table<'a, const N: usize, const K: usize> {
     pub literals: View<'a>,
     pub targets: View<'a>,
     pub slots: Bounded<Slot<N>, K>,
+    // How many literals there may be stands here, since `candidates`, pruning and each step of the search need it.
     ghost few: { (length literals.starts.now ≤ N) × (length targets.starts.now ≤ N) × (N ≤ 256) },
     ghost linked: { Linked literals.nodes.now literals.starts.now targets.nodes.now targets.starts.now (elems slots) },
 }
