@@ -1,6 +1,6 @@
 -- What is struck out by marks is taken by no choice that agrees with the table.
-use Rattle.std.proofs.Common.{◌≡◌, ℕ, ◌%◌, ◌<◌, List, length, get_or, set, sym, ap, ◌∙◌, subst, ⊎_elim}
-use Rattle.std.proofs.lemmas.List.{get_or-set_same, get_or-set_other, get_or_read, get_or_default}
+use Rattle.std.proofs.Common.{◌≡◌, ℕ, ◌%◌, ◌<◌, ◌≤◌, List, length, get_or, set, take, sym, ap, ◌∙◌, subst, ⊎_elim, arith}
+use Rattle.std.proofs.lemmas.List.{get_or-set_same, get_or-set_other, get_or_read, get_or_default, get_or-take, length-take-le}
 use Rattle.std.proofs.lemmas.Bool.{cases_eq}
 use Rattle.subsume.specs.declared.bits.BitSet.{BitSet}
 use Rattle.subsume.specs.declared.slot.Slot.{Slot}
@@ -20,6 +20,21 @@ row-set_same c i r h = ap (λ (z : BitSet 4). z.words) (get_or-set_same c i r no
 
 pub row-set_other : (c : List (BitSet 4)) (i k : ℕ) (r : BitSet 4) → (k ≡ i → ⊥) → row (set c i r) k ≡ row c k
 row-set_other c i k r n = ap (λ (z : BitSet 4). z.words) (get_or-set_other c i k r none n)
+
+-- marks by the first n labels
+module _ (labels : List ℕ) (n : ℕ) (few : n ≤ length labels) (marks : List ℕ) where
+  pub marked-first : (words : List ℕ) → Marked words (take n labels) (length (take n labels)) marks → Marked words labels n marks
+  marked-first words m = λ k h e.
+      subst (λ (l : ℕ). bit_at marks (l % 4096) ≡ 1) (get_or-take n labels k 0 h) (m k (omega (arith, length-take-le n labels few, h)) e)
+
+  pub sifted-first : (before after : List ℕ) → Sifted before after (take n labels) (length (take n labels)) marks → Sifted before after labels n marks
+  sifted-first before after s =
+      let long = length-take-le n labels few in
+      record {
+        outside = λ l h. s.outside l (omega (arith, long, h));
+        kept = λ i h e f. s.kept i (omega (arith, long, h)) e (subst (λ (l : ℕ). bit_at marks (l % 4096) ≡ 1) (sym (get_or-take n labels i 0 h)) f);
+        fewer = λ i h e. s.fewer i (omega (arith, long, h)) e;
+      }
 
 module _ {N : ℕ} (slots : List (Slot N)) (m n : ℕ) where
   pub pruned-none : (c : List (BitSet 4)) → Pruned slots m n c c

@@ -36,10 +36,6 @@ slot_at {N} slots s = slice_index_or slots s (no_slot N)
 abbrev pub entry : {N : ℕ} → List (Slot N) → (s j : ℕ) → ℕ
 entry slots s j = slice_index (slot_at slots s).labels j
 
--- each slot is of one of m literals
-abbrev pub Owned : {N : ℕ} → List (Slot N) → (m : ℕ) → Type 0
-Owned slots m = (s : ℕ) → s < length slots → (slot_at slots s).literal < m
-
 -- a choice for each literal and a label for each variable agree with the table of labels
 abbrev pub Fits : {N : ℕ} → List (Slot N) → (f v : ℕ → ℕ) → Type 0
 Fits slots f v = (s : ℕ) → s < length slots → entry slots s (f (slot_at slots s).literal) ≡ v (slot_at slots s).variable
@@ -68,7 +64,7 @@ pub record Narrowed (before after : List ℕ) (j n : ℕ) : Type 0 where
 
 -- an answer is the only target below n that is left
 abbrev pub Settled : Option ℕ → List ℕ → (n : ℕ) → Type 0
-Settled (Some j) words n = (j < n) × ((k : ℕ) → k < 256 → bit_at words k ≡ 1 → k ≡ j)
+Settled (Some j) words n = (j < n) × (j < 256) × ((k : ℕ) → k < 256 → bit_at words k ≡ 1 → k ≡ j)
 Settled None words n = Unit {0}
 
 -- literal i takes the target j, and then candidates are struck out

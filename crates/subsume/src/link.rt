@@ -87,7 +87,8 @@ impl<'a, const N: usize, const K: usize> Table<'a, N, K> {
 
     // For each literal every target that it meets without a clash of symbols.
     pub fn candidates(&self) -> Candidates
-        ensures { Open self.now.literals.nodes.now self.now.literals.starts.now self.now.targets.nodes.now self.now.targets.starts.now result (length self.now.literals.starts.now) }
+        ensures length { length result ≡ 256 }
+        ensures open { Open self.now.literals.nodes.now self.now.literals.starts.now self.now.targets.nodes.now self.now.targets.starts.now result (length self.now.literals.starts.now) }
     {
         let mut sets = [BitSet::<4>::new(); 256];
         for (i, set) in sets[..self.literals.len()].iter_mut().enumerate() {

@@ -13,13 +13,13 @@ const LABELS: usize = 4096;
 // How many literals are looked at again before pruning stops.
 const ROUNDS: usize = 65536;
 
-// Marks the labels that the first `n` targets give, as far as they are left.
-fn mark<const N: usize>(left: &BitSet<4>, labels: &[u16; N], n: usize) -> BitSet<64>
-    requires { (n ≤ N) × (N ≤ 256) }
-    ensures { Marked left.now.words labels.now n result.words }
+// Marks the labels that the targets give, as far as they are left.
+fn mark(left: &BitSet<4>, labels: &[u16]) -> BitSet<64>
+    requires { length labels.now ≤ 256 }
+    ensures { Marked left.now.words labels.now (length labels.now) result.words }
 {
     let mut marks = BitSet::<64>::new();
-    for (j, label) in labels[..n].iter().enumerate() {
+    for (j, label) in labels.iter().enumerate() {
         if left.test(j) {
             marks.include(*label as usize % LABELS);
         }
@@ -27,18 +27,13 @@ fn mark<const N: usize>(left: &BitSet<4>, labels: &[u16; N], n: usize) -> BitSet
     marks
 }
 
-// Strikes out those of the first `n` targets whose labels are not marked; says whether there were any.
-fn sift<const N: usize>(
-    left: &mut BitSet<4>,
-    labels: &[u16; N],
-    n: usize,
-    marks: &BitSet<64>,
-) -> bool
-    requires { (n ≤ N) × (N ≤ 256) }
-    ensures { Sifted left.old.words left.new.words labels.now n marks.now.words }
+// Strikes out the targets whose labels are not marked; says whether there were any.
+fn sift(left: &mut BitSet<4>, labels: &[u16], marks: &BitSet<64>) -> bool
+    requires { length labels.now ≤ 256 }
+    ensures { Sifted left.old.words left.new.words labels.now (length labels.now) marks.now.words }
 {
     let mut struck = false;
-    for (j, label) in labels[..n].iter().enumerate() {
+    for (j, label) in labels.iter().enumerate() {
         if left.test(j) && !marks.test(*label as usize % LABELS) {
             left.exclude(j);
             struck = true;
@@ -55,10 +50,10 @@ impl<const N: usize, const K: usize> Table<'_, N, K> {
         ensures { Pruned (elems self.now.slots) (length self.now.literals.starts.now) (length self.now.targets.starts.now) sets.old sets.new }
     {
         let n = self.targets.len();
-        let marks = mark(&sets[slot.literal], &slot.labels, n);
+        let marks = mark(&sets[slot.literal], &slot.labels[..n]);
         for other in self.slots.as_slice() {
             if other.variable == slot.variable && other.literal != slot.literal {
-                if sift(&mut sets[other.literal], &other.labels, n, &marks) {
+                if sift(&mut sets[other.literal], &other.labels[..n], &marks) {
                     queue.include(other.literal);
                 }
             }

@@ -78,12 +78,11 @@ impl<const N: usize, const K: usize> Table<'_, N, K> {
 
     // What is left once literal `i` takes the target `j`.
     fn take(&self, state: &State<N>, i: usize, j: usize) -> State<N>
-        requires literal { (i < length self.now.literals.starts.now) × (pick state.now.picks i ≡ None) }
+        requires literal { i < length self.now.literals.starts.now }
         requires target { j < length self.now.targets.starts.now }
-        requires picked { Picked state.now.sets (length self.now.literals.starts.now) (length self.now.targets.starts.now) state.now.picks }
         ensures taken { Taken (elems self.now.slots) (length self.now.literals.starts.now) (length self.now.targets.starts.now) state.now.sets i j result.sets }
-        ensures picked { Picked result.sets (length self.now.literals.starts.now) (length self.now.targets.starts.now) result.picks }
-        ensures fewer { undone result.picks < undone state.now.picks }
+        ensures picked { Picked state.now.sets (length self.now.literals.starts.now) (length self.now.targets.starts.now) state.now.picks → Picked result.sets (length self.now.literals.starts.now) (length self.now.targets.starts.now) result.picks }
+        ensures fewer { pick state.now.picks i ≡ None → undone result.picks < undone state.now.picks }
     {
         let mut sets = state.sets;
         narrow(&mut sets[i], j, self.targets.len());

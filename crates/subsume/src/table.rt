@@ -13,10 +13,12 @@ pub type Candidates = [BitSet<4>; 256];
 
 // The literals of one clause, those of another as their targets, and a slot for each variable of each literal, as far as
 // there is room.
+#[derive(Drop)]
 pub struct Table<'a, const N: usize, const K: usize> {
     pub literals: View<'a>,
     pub targets: View<'a>,
     pub slots: Bounded<Slot<N>, K>,
+    // How many literals there may be stands here, since `candidates`, pruning and each step of the search need it.
     ghost few: { (length literals.starts.now ≤ N) × (length targets.starts.now ≤ N) × (N ≤ 256) },
     ghost linked: { Linked literals.nodes.now literals.starts.now targets.nodes.now targets.starts.now (elems slots) },
 }

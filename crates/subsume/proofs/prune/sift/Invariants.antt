@@ -2,4 +2,4 @@ use Rattle.subsume.specs.Choices.{Sifted}
 use Rattle.subsume.proofs.prune.sift.Given as goal
 
 abbrev pub invariant-loop-j : goal.invariant-loop-j
-invariant-loop-j g l = Sifted l.initial.left.words l.left.words l.labels l.j l.marks.words
+invariant-loop-j l = Sifted l.initial.left.words l.left.words l.labels l.j l.marks.words

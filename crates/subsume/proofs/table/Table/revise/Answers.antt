@@ -4,7 +4,7 @@ use Rattle.bounded.specs.Elems.{elems}
 use Rattle.subsume.specs.declared.bits.BitSet.{BitSet}
 use Rattle.subsume.specs.declared.slot.Slot.{Slot}
 use Rattle.subsume.specs.Choices.{no_slot, slot_at, Sifted, Pruned}
-use Rattle.subsume.proofs.Pruning.{item, row-read, sift-prunes}
+use Rattle.subsume.proofs.Pruning.{item, row-read, marked-first, sifted-first, sift-prunes}
 use Rattle.subsume.proofs.table.Table.revise.Goals as goal
 use Rattle.subsume.proofs.table.Table.revise.Goals.{then-other-slot+then-other-slot-2+then-sift, then-other-slot+then-other-slot-2+else-sift, else-other-slot}
 
@@ -45,15 +45,15 @@ loop-other-preserved g c =
     let next : (r after : BitSet 4) → other.variable ≡ slot.variable → Sifted (get_or now other.literal r).words after.words other.labels n c.mark-marks.result.words
     → Kept slots m n start (set now other.literal after) = λ r after alike sifted. (
       sift-prunes slots m n start now slot other given.0 k given.1 given.2 here is owned inside alike
-          _ _ c.mark-marks.result.words after first (row-read now other.literal r inside) (rw c.len-n.ensures at c.mark-marks.ensures) c.loop-other.invariant.0 sifted,
+          _ _ c.mark-marks.result.words after first (row-read now other.literal r inside) (marked-first slot.labels n (omega (arith, t.few.1, slot.sized)) _ _ (rw c.len-n.ensures at c.mark-marks.ensures)) c.loop-other.invariant.0 sifted,
       length-set now other.literal after ∙ c.loop-other.invariant.1,
     ) in
     elim c.if-other-slot.branch [
       | then-other-slot+then-other-slot-2+then-sift w ↦
           subst (Kept slots m n start) (sym w.sets-is)
-          (next w.index-sets-other.result w.sift.new.left w.if-other-slot.true (rw c.len-n.ensures at w.sift.ensures))
+          (next w.index-sets-other.result w.sift.new.left w.if-other-slot.true (sifted-first other.labels n (omega (arith, t.few.1, other.sized)) _ _ _ (rw c.len-n.ensures at w.sift.ensures)))
       | then-other-slot+then-other-slot-2+else-sift w ↦
           subst (Kept slots m n start) (sym w.sets-is)
-          (next w.index-sets-other.result w.sift.new.left w.if-other-slot.true (rw c.len-n.ensures at w.sift.ensures))
+          (next w.index-sets-other.result w.sift.new.left w.if-other-slot.true (sifted-first other.labels n (omega (arith, t.few.1, other.sized)) _ _ _ (rw c.len-n.ensures at w.sift.ensures)))
       | else-other-slot w ↦ subst (Kept slots m n start) (sym w.sets-is) c.loop-other.invariant
     ]

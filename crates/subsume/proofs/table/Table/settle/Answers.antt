@@ -23,7 +23,7 @@ loop-i-preserved g c =
           let told = w.in-Some.ensures in
           let row = row-read old.sets i c.index-state-i.result (omega (arith, t.few.0, t.few.2, old.rows)) in
           subst P (sym w.state-is) (
-            picked-set m n old.sets old.picks i j (omega (arith, t.few.0, old.sized)) (omega (arith, told.0)) inv.picked (λ k h e. told.1 k (omega (arith, t.few.1, t.few.2)) (sym (ap (λ (ws : List ℕ). bit_at ws k) row) ∙ e)),
+            picked-set m n old.sets old.picks i j (omega (arith, t.few.0, old.sized)) (omega (arith, told.0)) inv.picked (λ k h e. told.2 k (omega (arith, t.few.1, t.few.2)) (sym (ap (λ (ws : List ℕ). bit_at ws k) row) ∙ e)),
             omega (arith, inv.fewer, undone-set old.picks i j),
             inv.same,
           )

@@ -5,4 +5,4 @@ use Rattle.subsume.proofs.table.Table.take.Goals as goal
 pub returns-clause-fewer : goal.returns-clause-fewer
 returns-clause-fewer g c =
     let few = c.args.self.now.few in
-    undone-less c.args.state.now.picks c.args.i c.args.j (omega (arith, c.requires.literal.0, few.0, c.args.state.now.sized)) c.requires.literal.1
+    undone-less c.args.state.now.picks c.args.i c.args.j (omega (arith, c.requires.literal, few.0, c.args.state.now.sized))
