@@ -14,7 +14,7 @@ pub fn gather(heap: Global, input: &[u8]) -> Result<String, AllocError>
     let mut text = String::new(heap);
     let mut gatherer = Gatherer::new(heap);
     let mut at = 0;
-    // no iterator: where the next entry begins is known only once this one is read
+    // no iterator: an entry tells the place after it, from which the loop goes on
     while at < input.len() {
         match entry(input, at) {
             Ok((start, end)) => {

@@ -12,7 +12,7 @@ pub struct Listing<F> {
     pub fault: Option<F>,
 }
 
-// What list_place and list_record share. What is left of each are the type and its two calls, so a trait over both would be longer.
+// What `list_place` and `list_record` share.
 impl<F: Layered> Listing<F> {
     // Of a thing that was read and is shown so.
     pub(super) fn whole(heap: Global, shown: &str) -> Result<Listing<F>, AllocError>

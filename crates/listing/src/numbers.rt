@@ -15,7 +15,7 @@ pub fn list_numbers(heap: Global, input: &[u8]) -> Result<Listing<NumberFault>, 
     let mut text = String::new(heap);
     let mut at = 0;
     let mut count: usize = 0;
-    // no iterator: where the next number begins is known only once this one is read
+    // no iterator: the reader answers the place after what it read, from which the loop goes on
     while at < input.len() {
         match number::read(input, at) {
             Ok((value, next)) => {

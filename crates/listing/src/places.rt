@@ -10,7 +10,8 @@ use super::words::show_place;
 use place::{PlaceFault, PlaceWord};
 use std::alloc::{AllocError, Global};
 
-// Lists the place word whose packed form the input is.
+// Lists the place word whose packed form the input is. `list_record` is alike: what they share is in `Listing`, and a trait over
+// both would be longer than what is left of each.
 pub fn list_place(heap: Global, input: &[u8]) -> Result<Listing<PlaceFault>, AllocError>
     ensures { IfOk result (λ l. (string_bytes l.text, l.fault) ≡ place_listed (read_place input.now)) }
 {

@@ -6,8 +6,9 @@ ghost use Rattle.number.specs.Reads.{read_number, first, second, third, Exactly}
 
 use super::NumberFault;
 
-// The number that begins at `at`: its value, and the place after it. The readers above do the same, and no struct goes along
-// the input: so a caller has the whole input at hand, and a fault tells its byte in it.
+// The number that begins at `at`: its value, and the place after it. The readers above do the same, and
+// no struct holds input and place: a caller goes on from the place that was answered, and a fault tells its byte in the whole
+// input.
 pub fn read(input: &[u8], at: usize) -> Result<(u16, usize), NumberFault>
     ensures value { result ≡ read_number input.now at }
     ensures exact { Exactly input.now at result }

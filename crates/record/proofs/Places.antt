@@ -1,5 +1,5 @@
 -- Literals among the nodes of a record: where they begin, and that none stands twice.
-use Rattle.std.proofs.Common.{◌≡◌, ℕ, ◌+◌, ◌<◌, ◌≤◌, Bool, true, false, not, List, [], ◌∷◌, ◌++◌, length, get_or, sym, refl, ap, ◌∙◌, ap₂, append_assoc, append-nil, arith, length-append}
+use Rattle.std.proofs.Common.{◌≡◌, ℕ, ◌+◌, ◌<◌, ◌≤◌, Bool, true, false, not, List, [], ◌∷◌, ◌++◌, length, sym, refl, ap, ◌∙◌, ap₂, append_assoc, append-nil, arith, length-append}
 use Rattle.std.proofs.Math.Decide.{ℕ_discrete}
 use Rattle.std.proofs.lemmas.List.{drop_at}
 use Rattle.std.proofs.lemmas.List.Elements.{All-nil, All-cons}
@@ -42,9 +42,6 @@ begins-push at (cons u us) w =
 pub inside-begins : (at n : ℕ) (us : Words) → at + sizes us ≤ n → Inside n (begins at us)
 inside-begins at n nil h = All-nil (λ i. i < n)
 inside-begins at n (cons u us) h = All-cons (λ i. i < n) at (begins (at + size u) us) (omega (arith, size-pos u)) (inside-begins (at + size u) n us (omega arith))
-
-pub inside-at : (n : ℕ) (is : List ℕ) (k : ℕ) → Inside n is → k < length is → get_or is k 0 < n
-inside-at n is k h g = h k 0 g
 
 -- the words that begin there
 pub from-begins : (us : Words) (front rest : List Node) → words_from (front ++ (codes us ++ rest)) (begins (length front) us) ≡ us

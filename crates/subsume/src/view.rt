@@ -1,4 +1,5 @@
-// A clause by its nodes in preorder, and where the literals that count begin among them.
+// A clause by its nodes in preorder, and where the literals that count begin among them. Definitions take it by its parts,
+// since those under the facts of a type cannot name the type.
 ghost use Rattle.std.specs.Prelude.{◌≡◌, ℕ, ◌<◌, length, slice_index};
 ghost use Rattle.term.specs.Coding.{Whole};
 ghost use Rattle.term.specs.Standing.{Whole-prop};

@@ -17,7 +17,8 @@ struct Read {
 }
 
 // Reads `count` words that begin at `at` and puts their nodes at the end of `nodes`; the variables below `seen` have stood
-// before. Answers the place after the last word and the new `seen`; after a fault `nodes` is as it was.
+// before. Answers the place after the last word and the new `seen`, which goes in and out as the place does; after a fault
+// `nodes` is as it was.
 pub fn read_words<const N: usize>(
     input: &[u8],
     at: usize,
