@@ -22,6 +22,7 @@ pub fn list_place(heap: Global, input: &[u8]) -> Result<Listing<PlaceFault>, All
     }
 }
 
+// As for `RecordFault`, but that no literal is ever in hand.
 impl Layered for PlaceFault {
     ghost tells = { place_told };
 

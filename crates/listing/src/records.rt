@@ -24,7 +24,7 @@ pub fn list_record(heap: Global, input: &[u8]) -> Result<Listing<RecordFault>, A
     }
 }
 
-// A record in legible form.
+// A record in legible form: the words of `show_word`, and so no `Display`.
 pub fn show_record(heap: Global, clause: &Record) -> Result<String, AllocError>
     ensures { IfOk result (λ s. string_bytes s ≡ shown_clause (literals clause.now)) }
 {

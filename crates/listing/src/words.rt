@@ -9,7 +9,7 @@ use std::alloc::{AllocError, Global};
 use std::fmt;
 use term::{Node, Symbol, WordAt, places};
 
-// A place word in legible form.
+// A place word in legible form: the word of `show_word`, and so no `Display`.
 pub fn show_place(heap: Global, place: &PlaceWord) -> Result<String, AllocError>
     ensures { IfOk result (λ s. string_bytes s ≡ shown (meaning place.now)) }
 {

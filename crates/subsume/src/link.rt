@@ -18,7 +18,7 @@ use term::{Node, WordAt};
 
 impl<'a, const N: usize, const K: usize> Table<'a, N, K> {
     // For each target, the label of the word that it gives the node `p` of a literal; 0, for which nothing asks, where it
-    // cannot be the target.
+    // cannot be the target. With an `Option` those who read the row would have to open each label.
     fn label_row(&self, literal: WordAt<'_>, p: usize) -> [u16; N]
         requires { Inner literal.nodes.now literal.start p }
         ensures labels { (j : ℕ) → j < length self.now.targets.starts.now → (θ : ℕ → Word) → Turns literal.entry.nodes.now literal.entry.start self.now.targets.nodes.now (slice_index self.now.targets.starts.now j) θ → slice_index result j ≡ label_of (sub θ (word_at literal.entry.nodes.now p)) }
@@ -105,8 +105,12 @@ fn open_row(left: &mut BitSet<4>, a: WordAt<'_>, b: View<'_>)
     ensures others { (l : ℕ) → bit_at left.old.words l ≡ 1 → bit_at left.new.words l ≡ 1 }
 {
     let end = a.end();
-    for j in 0..b.len() {
-        if meet(a, end, b.literal(j)).is_some() {
+    for (j, start) in b.starts.iter().enumerate() {
+        let target = WordAt {
+            nodes: b.nodes,
+            start: *start,
+        };
+        if meet(a, end, target).is_some() {
             left.include(j);
         }
     }

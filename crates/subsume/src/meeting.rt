@@ -45,7 +45,8 @@ pub fn label(word: WordAt<'_>) -> u16
     label as u16
 }
 
-// What a node adds to a label. A weight in a hash, and no conversion: so no `From`.
+// What a node adds to a label. A weight in a hash, and no conversion: so no `From`. The numbers of the packed
+// form have the same cases and are narrower.
 fn number(node: Node) -> u32
     ensures value { result ≡ number node }
     ensures bound { result ≤ 131071 }

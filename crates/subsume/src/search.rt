@@ -37,7 +37,7 @@ impl<const N: usize, const K: usize> Table<'_, N, K> {
         ensures fewer { undone state.new.picks ≤ undone state.old.picks }
         ensures same { state.new.sets ≡ state.old.sets }
     {
-        // By number: the borrow checker does not cover picks lent in place beside sets, which have ghost fields.
+        // By number: picks lent in place beside the sets are refused, and by `zip` or `enumerate` over both the proof did not close.
         for i in 0..self.literals.len() {
             if let Some(j) = settled(&state.sets[i], self.targets.len()) {
                 state.picks[i] = Some(j as u16);

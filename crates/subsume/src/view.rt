@@ -1,5 +1,5 @@
-// A clause by its nodes in preorder, and where the literals that count begin among them. Definitions take it by its parts,
-// since those under the facts of a type cannot name the type.
+// A clause by its nodes in preorder, and where the literals that count begin among them. Two slices, so that a
+// literal can be left out without a copy. Definitions take it by its parts, since what they say does not rest on its facts.
 ghost use Rattle.std.specs.Prelude.{◌≡◌, ℕ, ◌<◌, length, slice_index};
 ghost use Rattle.term.specs.Coding.{Whole};
 ghost use Rattle.term.specs.Standing.{Whole-prop};
