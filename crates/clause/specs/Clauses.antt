@@ -1,7 +1,7 @@
 -- Clauses of any size: finite sets of literals, written as lists; and which covers which.
-use Rattle.std.specs.Prelude.{ℕ, List, All, Contains, map}
+use Rattle.std.specs.Prelude.{ℕ, List, [], ◌∷◌, All, Contains, map}
 use Rattle.term.specs.Coding.{word_at}
-use Rattle.term.specs.Words.{Word, var, app, sub}
+use Rattle.term.specs.Words.{Word, var, app, Words, nil, cons, sub}
 use Rattle.term.specs.declared.node.Node.{Node}
 use Rattle.term.specs.declared.node.Symbol.TheVariants.{Function, Positive, Negative}
 
@@ -19,3 +19,8 @@ Covers one other = (θ : ℕ → Word) × All (λ l. Contains other (sub θ l)) 
 -- the literals that begin at these places
 abbrev pub literals_at : List Node → (starts : List ℕ) → List Word
 literals_at nodes starts = map (word_at nodes) starts
+
+-- words as a list
+abbrev pub each : Words → List Word
+each nil = []
+each (cons u us) = u ∷ each us
