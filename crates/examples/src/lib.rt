@@ -301,13 +301,14 @@ mod tests {
     #[test]
     fn records_are_listed(rt: HostRuntime) -> Result<(), Fail> {
         lists_record(&rt, &[0], "{}\n")?;
-        lists_record(&rt, &[2, 2, 1, 0, 5, 1, 7, 0], "{p1(X0), -p2(a3)}\n")?;
-        lists_record(&rt, &[2, 8, 0, 6, 2, 0, 2], "{p4, p3(X0, X1)}\n")?;
+        lists_record(&rt, &[2, 2, 1, 0, 5, 1, 7, 0], "{p1(X0), -q2(a3)}\n")?;
+        lists_record(&rt, &[2, 8, 0, 6, 2, 0, 2], "{s4, r3(X0, X1)}\n")?;
         lists_record(
             &rt,
             &[1, 3, 1, 2],
             "fault 7 at byte 3 of literal 0 in word, literal, record: a variable is not the next unused one\n",
         )?;
+        lists_record(&rt, &[3, 2, 0, 3, 0, 2, 1, 0], "{p1, -p1, p1(X0)}\n")?;
         lists_record(
             &rt,
             &[17],

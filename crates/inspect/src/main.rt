@@ -1,4 +1,4 @@
-// Reads packed bytes from standard input and lists what they hold: numbers, or one place word.
+// Reads packed bytes from standard input and lists what they hold: numbers, one place word or one record.
 #![tactic(auto)]
 
 use anyhow::bail;
@@ -11,6 +11,7 @@ use std::io::Read;
 enum Form {
     Numbers,
     Place,
+    Record,
 }
 
 fn main(rt: HostRuntime) -> anyhow::Result<()> {
@@ -20,16 +21,31 @@ fn main(rt: HostRuntime) -> anyhow::Result<()> {
     match form {
         Form::Numbers => print(&rt, listing::list_numbers(rt.alloc(), &input)?),
         Form::Place => print(&rt, listing::list_place(rt.alloc(), &input)?),
+        Form::Record => print(&rt, listing::list_record(rt.alloc(), &input)?),
     }
 }
 
-// The form that the arguments ask for.
+// The form that the arguments ask for: numbers where there are none.
 fn form_asked_for(rt: &HostRuntime) -> anyhow::Result<Form> {
     let mut args = env::args(rt)?.skip(1);
-    match args.next() {
-        None => Ok(Form::Numbers),
-        Some(word) if word.as_str() == "place" && args.next().is_none() => Ok(Form::Place),
-        Some(_) => bail!("usage: inspect [place] < FILE"),
+    let Some(word) = args.next() else {
+        return Ok(Form::Numbers);
+    };
+    if args.next().is_none() {
+        if let Some(form) = form_of(word.as_str()) {
+            return Ok(form);
+        }
+    }
+    bail!("usage: inspect [numbers | place | record] < FILE")
+}
+
+// The form of this name.
+fn form_of(name: &str) -> Option<Form> {
+    match name {
+        "numbers" => Some(Form::Numbers),
+        "place" => Some(Form::Place),
+        "record" => Some(Form::Record),
+        _ => None,
     }
 }
 

@@ -1,17 +1,22 @@
 -- Words and clauses in legible form.
-use Rattle.std.specs.Prelude.{ℕ, zero, suc, List, [], ◌∷◌, ◌++◌, codes, decimal}
+use Rattle.std.specs.Prelude.{ℕ, zero, suc, ◌%◌, ◌==◌, cond, List, [], ◌∷◌, ◌++◌, codes, decimal}
 use Rattle.term.specs.declared.node.Node.{Node}
 use Rattle.term.specs.declared.node.Node.TheVariants.{Variable, Applied}
 use Rattle.term.specs.declared.node.Symbol.{Symbol}
 use Rattle.term.specs.declared.node.Symbol.TheVariants.{Function, Positive, Negative}
+use Rattle.clause.specs.Clauses.{each}
 use Rattle.term.specs.Words.{Word, var, app, Words, nil, cons, len}
 
--- a constant is a, a symbol with places is f, a predicate is p, with a minus where it is negative
+-- the letter of a predicate, by what its number leaves on division by 4
+abbrev pub letter : ℕ → List ℕ
+letter p = cond (p % 4 == 1) (codes "p") (cond (p % 4 == 2) (codes "q") (cond (p % 4 == 3) (codes "r") (codes "s")))
+
+-- a constant is a, a symbol with places is f, a predicate is its letter, with a minus where it is negative
 abbrev pub symbol_name : Symbol → (places : ℕ) → List ℕ
 symbol_name (Function f) zero = codes "a" ++ decimal f
 symbol_name (Function f) (suc k) = codes "f" ++ decimal f
-symbol_name (Positive p) k = codes "p" ++ decimal p
-symbol_name (Negative p) k = codes "-p" ++ decimal p
+symbol_name (Positive p) k = letter p ++ decimal p
+symbol_name (Negative p) k = codes "-" ++ (letter p ++ decimal p)
 
 abbrev pub node_name : Node → List ℕ
 node_name (Variable x) = codes "X" ++ decimal x
@@ -49,9 +54,5 @@ separated text n [] = []
 separated text n (x ∷ xs) = separator n ++ (text x ++ separated text (suc n) xs)
 
 -- a clause: its literals in braces
-abbrev pub each : Words → List Word
-each nil = []
-each (cons l ls) = l ∷ each ls
-
 unfoldable pub shown_clause : Words → List ℕ
 shown_clause ls = codes "{" ++ (separated shown 0 (each ls) ++ codes "}")

@@ -2,7 +2,7 @@
 ghost use Rattle.std.specs.Prelude.{◌≡◌, ◌++◌, Some, IfOk, string_bytes};
 ghost use Rattle.place.specs.Places.{meaning};
 ghost use Rattle.term.specs.Coding.{word_at, Next};
-ghost use Rattle.listing.specs.Shown.{divider, closing, node_name, shown};
+ghost use Rattle.listing.specs.Shown.{divider, closing, letter, node_name, shown};
 
 use place::PlaceWord;
 use std::alloc::{AllocError, Global};
@@ -52,6 +52,18 @@ fn closing(count: usize) -> &'static str
     if count == 0 { "" } else { ")" }
 }
 
+// The letter of a predicate: p, q, r and s in turn from number 1 on.
+fn letter(p: u16) -> &'static str
+    ensures { result.now ≡ letter p }
+{
+    match p % 4 {
+        1 => "p",
+        2 => "q",
+        3 => "r",
+        _ => "s",
+    }
+}
+
 // A node without its places.
 #[derive(Clone, Copy)]
 struct Name(Node);
@@ -64,8 +76,8 @@ impl fmt::Display for Name {
             Node::Variable(x) => write!(f, "X{x}"),
             Node::Applied(Symbol::Function(a), 0) => write!(f, "a{a}"),
             Node::Applied(Symbol::Function(g), _) => write!(f, "f{g}"),
-            Node::Applied(Symbol::Positive(p), _) => write!(f, "p{p}"),
-            Node::Applied(Symbol::Negative(p), _) => write!(f, "-p{p}"),
+            Node::Applied(Symbol::Positive(p), _) => write!(f, "{}{p}", letter(p)),
+            Node::Applied(Symbol::Negative(p), _) => write!(f, "-{}{p}", letter(p)),
         }
     }
 }

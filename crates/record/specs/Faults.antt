@@ -5,6 +5,7 @@ use Rattle.number.specs.Faults as numbers
 use Rattle.word.specs.Faults as words
 use Rattle.word.specs.declared.fault.Layer.{Layer}
 use Rattle.word.specs.declared.fault.Layer.TheVariants as layer
+use Rattle.word.specs.declared.fault.WordFault.TheVariants.{Nodes as WordNodes}
 use Rattle.record.specs.declared.fault.LiteralFault.{LiteralFault}
 use Rattle.record.specs.declared.fault.LiteralFault.TheVariants.{Number as InNumber, Word, Places, Nodes, Repeated}
 use Rattle.record.specs.declared.fault.RecordFault.{RecordFault}
@@ -31,12 +32,13 @@ told (Literals first) = (4, first, None, layer.Record ∷ [])
 told (Literal place) = ((literal_told place.fault).0, place.byte, Some place.literal, (literal_told place.fault).2)
 told (Left first) = (9, first, None, layer.Record ∷ [])
 
--- what is wrong, in words; a number's fault and a word's say it in their own
+-- what is wrong, in words; a number's fault and a word's say it in their own, but for the limit, which is that of a record here
 abbrev pub literal_sentence : LiteralFault → List ℕ
 literal_sentence (InNumber fault) = numbers.sentence fault
+literal_sentence (Word (WordNodes _)) = codes "the record has more than 256 nodes"
 literal_sentence (Word fault) = words.sentence fault
 literal_sentence (Places _) = codes "a predicate has more than 8 places"
-literal_sentence (Nodes _) = codes "there are more nodes than the limit (64 in a place word, 256 in a record)"
+literal_sentence (Nodes _) = codes "the record has more than 256 nodes"
 literal_sentence (Repeated _) = codes "the literal repeats an earlier one"
 
 abbrev pub sentence : RecordFault → List ℕ

@@ -87,11 +87,12 @@ impl fmt::Display for LiteralFault {
     fn fmt<W: fmt::Write>(&self, f: &mut fmt::Formatter<W>) -> fmt::Result {
         match self {
             LiteralFault::Number(fault) => fault.fmt(f),
+            LiteralFault::Word(WordFault::Nodes { first: _ }) => f.write_str(
+                "the record has more than 256 nodes",
+            ),
             LiteralFault::Word(fault) => fault.fmt(f),
             LiteralFault::Places { first: _ } => f.write_str("a predicate has more than 8 places"),
-            LiteralFault::Nodes { first: _ } => f.write_str(
-                "there are more nodes than the limit (64 in a place word, 256 in a record)",
-            ),
+            LiteralFault::Nodes { first: _ } => f.write_str("the record has more than 256 nodes"),
             LiteralFault::Repeated { first: _ } => f.write_str(
                 "the literal repeats an earlier one",
             ),

@@ -6,7 +6,8 @@ use Rattle.term.proofs.Codings.{whole-all, length-codes}
 use Rattle.record.specs.Reads.{Inside, words_from}
 use Rattle.record.specs.Records.{literals}
 use Rattle.record.proofs.Places.{inside-begins, from_all}
-use Rattle.listing.specs.Shown.{separated, shown, each, shown_clause}
+use Rattle.clause.specs.Clauses.{each}
+use Rattle.listing.specs.Shown.{separated, shown, shown_clause}
 use Rattle.listing.proofs.Separated.{one_more, none_left, separated-words}
 use Rattle.listing.proofs.records.show_record.Goals as goal
 
