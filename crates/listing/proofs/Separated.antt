@@ -4,7 +4,7 @@ use Rattle.std.proofs.lemmas.List.{drop_more, drop_all}
 use Rattle.term.specs.declared.node.Node.{Node}
 use Rattle.term.specs.Coding.{word_at}
 use Rattle.record.specs.Reads.{words_from}
-use Rattle.clause.specs.Clauses.{each}
+use Rattle.clauses.specs.Clauses.{each}
 use Rattle.listing.specs.Shown.{separator, separated, shown}
 
 module _ {X : Type 0} (show : X → List ℕ) (xs : List X) (goal : List ℕ) where

@@ -4,7 +4,7 @@ use Rattle.term.specs.declared.node.Node.{Node}
 use Rattle.term.specs.declared.node.Node.TheVariants.{Variable, Applied}
 use Rattle.term.specs.declared.node.Symbol.{Symbol}
 use Rattle.term.specs.declared.node.Symbol.TheVariants.{Function, Positive, Negative}
-use Rattle.clause.specs.Clauses.{each}
+use Rattle.clauses.specs.Clauses.{each}
 use Rattle.term.specs.Words.{Word, var, app, Words, nil, cons, len}
 
 -- the letter of a predicate, by what its number leaves on division by 4

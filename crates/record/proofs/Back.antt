@@ -18,7 +18,8 @@ use Rattle.word.proofs.Laws.{packed_none, packed_more, packed-append, lawful-wri
 use Rattle.record.specs.Clauses.{predicative, Literal, Literals, variables, stands, distinct, Clause}
 use Rattle.record.specs.Reads.{predicate_of, head_at, read_literal, read_literals, read_record, clause_form}
 use Rattle.record.proofs.Tests.{varss-push, order-push}
-use Rattle.record.proofs.Places.{sizes-push, distinct-parts, push-more}
+use Rattle.record.proofs.Places.{distinct-parts}
+use Rattle.clauses.proofs.Beginnings.{sizes-push, push-more}
 use Rattle.record.proofs.Turns.{literals-none, literals-more}
 
 -- the number of variables is at most that of nodes

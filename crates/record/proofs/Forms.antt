@@ -25,7 +25,7 @@ use Rattle.record.specs.Records.{literals}
 use Rattle.record.specs.Reads.{read_literal, in_literal, read_literals, Builds, read_record, clause_form, Reads, Exactly}
 use Rattle.record.proofs.Held.{held}
 use Rattle.record.proofs.Literals.{literal-added}
-use Rattle.record.proofs.Places.{push-more}
+use Rattle.clauses.proofs.Beginnings.{push-more}
 use Rattle.record.proofs.Back.{reads-back}
 
 -- so many literals stand from `at` to `to`

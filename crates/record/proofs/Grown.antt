@@ -19,13 +19,15 @@ use Rattle.word.proofs.Exact.{words-added}
 use Rattle.record.specs.declared.fault.LiteralFault.{LiteralFault}
 use Rattle.record.specs.declared.fault.LiteralFault.TheVariants.{Word as InWord, Repeated}
 use Rattle.record.specs.declared.literal.Head.{Head}
-use Rattle.record.specs.Clauses.{variables, stands, begins}
+use Rattle.record.specs.Clauses.{variables, stands}
+use Rattle.clauses.specs.Beginnings.{begins}
 use Rattle.record.specs.Reads.{words_from, Inside, head_at, differs, read_literal, Grows}
 use Rattle.word.proofs.Turns.{gave-fault, gave-words}
 use Rattle.record.proofs.Words.{words-alone, fault-alone, seen_all}
 use Rattle.record.proofs.Literals.{head-room}
 use Rattle.record.proofs.Tests.{varss-push}
-use Rattle.record.proofs.Places.{inside-begins, from-begins}
+use Rattle.record.proofs.Places.{from-begins}
+use Rattle.clauses.proofs.Beginnings.{inside-begins}
 
 -- the answers
 pub grows-refused : (R : Result (Word × ℕ) LiteralFault) (old after : List Node) (fault : LiteralFault) → R ≡ Err fault → take (length old) after ≡ old → Grows R old (Err fault) after

@@ -8,7 +8,7 @@ use Rattle.record.specs.declared.clause.Record.{Record}
 use Rattle.record.specs.Clauses.{Clause}
 use Rattle.record.specs.Records.{literals}
 use Rattle.record.proofs.Tests.{whole_says, clausal-says}
-use Rattle.record.proofs.Places.{length-begins}
+use Rattle.clauses.proofs.Beginnings.{length-begins}
 
 -- its nodes are those of its literals
 pub nodes-of : (r : Record) → codes (literals r) ≡ elems r.nodes

@@ -7,11 +7,13 @@ use Rattle.term.specs.Words.{Word, Words, nil, cons, ◌+++◌, sizes}
 use Rattle.term.specs.declared.node.Node.{Node}
 use Rattle.record.specs.declared.clause.Record.{Record}
 use Rattle.record.specs.declared.fault.LiteralFault.{LiteralFault}
-use Rattle.record.specs.Clauses.{whole, clausal, distinct, begins}
+use Rattle.record.specs.Clauses.{whole, clausal, distinct}
+use Rattle.clauses.specs.Beginnings.{begins}
 use Rattle.record.specs.Records.{literals}
 use Rattle.record.specs.Reads.{read_literal, Grows, Adds}
 use Rattle.record.proofs.Tests.{whole_from, whole_says, clausal-from, clausal-says, literals-push, order-push}
-use Rattle.record.proofs.Places.{begins-push, distinct_push}
+use Rattle.record.proofs.Places.{distinct_push}
+use Rattle.clauses.proofs.Beginnings.{begins-push}
 use Rattle.record.proofs.Literals.{literal-added}
 use Rattle.record.proofs.Grown.{held, decode-grown, grown-whole}
 

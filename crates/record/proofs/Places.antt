@@ -1,47 +1,17 @@
 -- Literals among the nodes of a record: where they begin, and that none stands twice.
-use Rattle.std.proofs.Common.{◌≡◌, ℕ, ◌+◌, ◌<◌, ◌≤◌, Bool, true, false, not, List, [], ◌∷◌, ◌++◌, length, sym, refl, ap, ◌∙◌, ap₂, append_assoc, append-nil, arith, length-append}
+use Rattle.std.proofs.Common.{◌≡◌, ℕ, ◌+◌, Bool, true, false, not, List, [], ◌++◌, length, sym, refl, ap, ◌∙◌, ap₂, append_assoc, append-nil, arith, length-append}
 use Rattle.std.proofs.Math.Decide.{ℕ_discrete}
 use Rattle.std.proofs.lemmas.List.{drop_at}
-use Rattle.std.proofs.lemmas.List.Elements.{All-nil, All-cons}
 use Rattle.std.proofs.lemmas.Bool.{and_parts, and_from, not-true, not_from_false, true≢false}
 use Rattle.term.specs.Coding.{code, codes, hd, decode, word_at}
 use Rattle.term.specs.Joins.{Symbol-discrete}
-use Rattle.term.specs.Words.{Word, Words, nil, cons, ◌+++◌, len, size, sizes, Word-discrete}
+use Rattle.term.specs.Words.{Word, Words, nil, cons, ◌+++◌, size, Word-discrete}
 use Rattle.term.specs.declared.node.Node.{Node}
 use Rattle.term.proofs.Cases.{by-test, test-yes, test-no}
 use Rattle.term.proofs.Codings.{decode-code, length-code}
-use Rattle.term.proofs.Substitutions.{size-pos}
-use Rattle.record.specs.Clauses.{stands, distinct, begins}
-use Rattle.record.specs.Reads.{words_from, Inside}
-
--- a word more, and others after it
-pub push-more : (us : Words) (w : Word) (vs : Words) → (us +++ cons w nil) +++ vs ≡ us +++ cons w vs
-push-more nil w vs = refl
-push-more (cons u us) w vs = ap (cons u) (push-more us w vs)
-
--- lengths
-pub len-push : (us : Words) (w : Word) → len (us +++ cons w nil) ≡ len us + 1
-len-push nil w = refl
-len-push (cons u us) w = omega (arith, len-push us w)
-
-pub sizes-push : (us : Words) (w : Word) → sizes (us +++ cons w nil) ≡ sizes us + size w
-sizes-push nil w = omega arith
-sizes-push (cons u us) w = omega (arith, sizes-push us w)
-
-pub length-begins : (at : ℕ) (us : Words) → length (begins at us) ≡ len us
-length-begins at nil = refl
-length-begins at (cons u us) = omega (arith, length-begins (at + size u) us)
-
-pub begins-push : (at : ℕ) (us : Words) (w : Word) → begins at (us +++ cons w nil) ≡ begins at us ++ (at + sizes us) ∷ []
-begins-push at nil w = let z : at ≡ at + 0 = omega arith in ap (λ (n : ℕ). n ∷ []) z
-begins-push at (cons u us) w =
-    let z : at + size u + sizes us ≡ at + (size u + sizes us) = omega arith in
-    ap (◌∷◌ at) (begins-push (at + size u) us w ∙ ap (λ (n : ℕ). begins (at + size u) us ++ n ∷ []) z)
-
--- places before a bound
-pub inside-begins : (at n : ℕ) (us : Words) → at + sizes us ≤ n → Inside n (begins at us)
-inside-begins at n nil h = All-nil (λ i. i < n)
-inside-begins at n (cons u us) h = All-cons (λ i. i < n) at (begins (at + size u) us) (omega (arith, size-pos u)) (inside-begins (at + size u) n us (omega arith))
+use Rattle.record.specs.Clauses.{stands, distinct}
+use Rattle.clauses.specs.Beginnings.{begins}
+use Rattle.record.specs.Reads.{words_from}
 
 -- the words that begin there
 pub from-begins : (us : Words) (front rest : List Node) → words_from (front ++ (codes us ++ rest)) (begins (length front) us) ≡ us

@@ -8,7 +8,7 @@ use Rattle.record.specs.declared.fault.LiteralFault.{LiteralFault}
 use Rattle.record.specs.declared.fault.RecordFault.{RecordFault}
 use Rattle.record.specs.Clauses.{variables}
 use Rattle.record.specs.Records.{literals}
-use Rattle.record.proofs.Places.{len-push}
+use Rattle.clauses.proofs.Beginnings.{len-push}
 use Rattle.record.specs.Reads.{read_literal, Adds, in_literal, read_literals, Builds}
 
 -- no more literals are wanted

@@ -1,11 +1,11 @@
 -- Clauses: lists of literals, read as sets, and which of them a record can hold.
-use Rattle.std.specs.Prelude.{◌≡◌, ℕ, ◌+◌, ◌≤◌, Bool, true, false, not, ◌&&◌, List, [], ◌∷◌, nat_le}
+use Rattle.std.specs.Prelude.{◌≡◌, ℕ, ◌≤◌, Bool, true, false, not, ◌&&◌, List, [], ◌∷◌, nat_le}
 use Rattle.std.proofs.Math.Logic.{ite}
 use Rattle.std.proofs.Math.Decide.{ℕ_discrete}
 use Rattle.term.specs.Coding.{codes, decode}
 use Rattle.term.specs.Joins.{Symbol-discrete}
 use Rattle.term.specs.Lawful.{lawful, Numbered, stood, Narrows}
-use Rattle.term.specs.Words.{Word, var, app, Words, nil, cons, len, size, sizes, varss, Word-discrete}
+use Rattle.term.specs.Words.{Word, var, app, Words, nil, cons, len, sizes, varss, Word-discrete}
 use Rattle.term.specs.declared.node.Node.{Node}
 use Rattle.term.specs.declared.node.Node.TheVariants.{Variable, Applied}
 use Rattle.term.specs.declared.node.Symbol.{Symbol}
@@ -39,11 +39,6 @@ stands w (cons u us) = ite (Word-discrete ℕ_discrete Symbol-discrete w u) true
 unfoldable pub distinct : Words → Bool
 distinct nil = true
 distinct (cons u us) = not (stands u us) && distinct us
-
--- where words begin among their nodes, the first of them at `at`
-abbrev pub begins : (at : ℕ) → Words → List ℕ
-begins at nil = []
-begins at (cons u us) = at ∷ begins (at + size u) us
 
 -- what a record holds: at most 16 literals and 256 nodes, no literal twice, variables numbered from 0 in the order of
 -- their first standing

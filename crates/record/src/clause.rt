@@ -2,7 +2,8 @@
 ghost use Rattle.std.specs.Prelude.{◌≡◌, true};
 ghost use Rattle.bounded.specs.Elems.{elems};
 ghost use Rattle.term.specs.Coding.{decode};
-ghost use Rattle.record.specs.Clauses.{whole, clausal, distinct, begins};
+ghost use Rattle.record.specs.Clauses.{whole, clausal, distinct};
+ghost use Rattle.clauses.specs.Beginnings.{begins};
 
 use bounded::Bounded;
 use term::Node;

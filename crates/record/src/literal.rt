@@ -2,7 +2,8 @@
 ghost use Rattle.std.specs.Prelude.{◌≡◌, ◌<◌, length};
 ghost use Rattle.bounded.specs.Elems.{elems};
 ghost use Rattle.term.specs.Coding.{decode, Whole, word_at};
-ghost use Rattle.record.specs.Clauses.{variables, stands, begins};
+ghost use Rattle.record.specs.Clauses.{variables, stands};
+ghost use Rattle.clauses.specs.Beginnings.{begins};
 ghost use Rattle.record.specs.Reads.{words_from, Inside, predicate_of, head_at, read_literal, Grows};
 
 use super::fault::LiteralFault;

@@ -2,7 +2,8 @@
 ghost use Rattle.std.specs.Prelude.{◌≡◌};
 ghost use Rattle.term.specs.Coding.{codes};
 ghost use Rattle.term.specs.Words.{nil};
-ghost use Rattle.record.specs.Clauses.{begins, Clause};
+ghost use Rattle.record.specs.Clauses.{Clause};
+ghost use Rattle.clauses.specs.Beginnings.{begins};
 ghost use Rattle.record.specs.Records.{literals};
 
 use super::Record;

@@ -5,8 +5,9 @@ use Rattle.term.specs.Words.{Words}
 use Rattle.term.proofs.Codings.{whole-all, length-codes}
 use Rattle.record.specs.Reads.{Inside, words_from}
 use Rattle.record.specs.Records.{literals}
-use Rattle.record.proofs.Places.{inside-begins, from_all}
-use Rattle.clause.specs.Clauses.{each}
+use Rattle.record.proofs.Places.{from_all}
+use Rattle.clauses.proofs.Beginnings.{inside-begins}
+use Rattle.clauses.specs.Clauses.{each}
 use Rattle.listing.specs.Shown.{separated, shown, shown_clause}
 use Rattle.listing.proofs.Separated.{one_more, none_left, separated-words}
 use Rattle.listing.proofs.records.show_record.Goals as goal

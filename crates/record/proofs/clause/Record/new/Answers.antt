@@ -1,7 +1,8 @@
 use Rattle.std.proofs.Common.{List, sym, ap, ◌∙◌}
 use Rattle.term.specs.declared.node.Node.{Node}
 use Rattle.term.specs.Coding.{decode}
-use Rattle.record.specs.Clauses.{begins, whole, clausal, distinct}
+use Rattle.record.specs.Clauses.{whole, clausal, distinct}
+use Rattle.clauses.specs.Beginnings.{begins}
 use Rattle.record.proofs.clause.Record.new.Goals as goal
 
 pub invariant_of-result : goal.invariant_of-result

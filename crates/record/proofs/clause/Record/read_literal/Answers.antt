@@ -3,7 +3,7 @@ use Rattle.bounded.specs.Elems.{elems}
 use Rattle.bounded.proofs.Rooms.{pushed_room}
 use Rattle.record.specs.Records.{literals}
 use Rattle.record.specs.Reads.{read_literal}
-use Rattle.record.proofs.Places.{length-begins}
+use Rattle.clauses.proofs.Beginnings.{length-begins}
 use Rattle.record.proofs.Kept.{whole-record, grown-invariant, grown-adds}
 use Rattle.record.proofs.clause.Record.read_literal.Goals as goal
 

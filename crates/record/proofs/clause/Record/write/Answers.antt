@@ -6,7 +6,7 @@ use Rattle.term.specs.declared.node.Node.{Node}
 use Rattle.word.specs.Packed.{packed, Writable}
 use Rattle.number.specs.Writes.{Wrote}
 use Rattle.record.specs.Records.{literals}
-use Rattle.record.proofs.Places.{length-begins}
+use Rattle.clauses.proofs.Beginnings.{length-begins}
 use Rattle.record.proofs.Held.{nodes-of, held}
 use Rattle.record.proofs.Back.{clause-writable, reads-back}
 use Rattle.record.proofs.Forms.{no_room, both-wrote}
