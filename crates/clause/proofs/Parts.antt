@@ -1,0 +1,35 @@
+-- Lists without one of their elements.
+use Rattle.std.proofs.Common.{◌≡◌, ℕ, zero, suc, ◌≤◌, ◌⊎◌, inl, inr, List, [], ◌∷◌, get_or, All, Contains, remove, refl, ap, arith}
+use Rattle.std.proofs.lemmas.List.Elements.{All-append, All-take, All-drop}
+
+module _ {X : Type 0} where
+  -- a member of a longer list
+  pub contains-tail : (x y : X) (xs : List X) → Contains xs y → Contains (x ∷ xs) y
+  contains-tail x y xs c = let lt = c.1 in (suc c.0, omega arith, c.2)
+
+  pub contains-cases : (x y : X) (xs : List X) → Contains (x ∷ xs) y → (x ≡ y) ⊎ Contains xs y
+  contains-cases x y xs (zero, lt, e) = inl e
+  contains-cases x y xs (suc k, lt, e) = inr (k, omega arith, e)
+
+  -- an element is the one that is left out, or stays
+  pub removed-cases : (xs : List X) (k : ℕ) (x : X) → Contains xs x → (get_or xs k x ≡ x) ⊎ Contains (remove xs k) x
+  removed-cases [] k x c = let lt = c.1 in absurd (omega arith)
+  removed-cases (y ∷ ys) zero x c = contains-cases y x ys c
+  removed-cases (y ∷ ys) (suc k) x (zero, lt, e) = inr (0, omega arith, e)
+  removed-cases (y ∷ ys) (suc k) x (suc i, lt, e) =
+      elim (removed-cases ys k x (i, omega arith, e)) [ inl h ↦ inl h | inr c ↦ inr (contains-tail y x (remove ys k) c) ]
+
+  pub All-remove : (P : X → Type 0) (xs : List X) (k : ℕ) → All P xs → All P (remove xs k)
+  All-remove P xs k h = All-append P _ _ (All-take P k xs h) (All-drop P (suc k) xs h)
+
+  remove-none : (i : ℕ) → [] ≡ remove {X = X} [] i
+  remove-none zero = refl
+  remove-none (suc i) = refl
+
+  -- which of two elements is left out first does not matter
+  pub remove-remove : (xs : List X) (i k : ℕ) → k ≤ i → remove (remove xs (suc i)) k ≡ remove (remove xs k) i
+  remove-remove [] i zero h = remove-none i
+  remove-remove [] i (suc k) h = remove-none i
+  remove-remove (x ∷ xs) i zero h = refl
+  remove-remove (x ∷ xs) zero (suc k) h = absurd (omega arith)
+  remove-remove (x ∷ xs) (suc i) (suc k) h = ap (λ (ys : List X). x ∷ ys) (remove-remove xs i k (omega arith))
