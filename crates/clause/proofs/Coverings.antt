@@ -16,7 +16,7 @@ covers-itself C = covers-part C C (All-contains_itself C)
 pub none-covers : (D : List Word) → Covers [] D
 none-covers D = covers-part [] D (All-nil (Contains D))
 
-pub covers-through : (C D E : List Word) → Covers C D → Covers D E → Covers C E
+unfoldable pub covers-through : (C D E : List Word) → Covers C D → Covers D E → Covers C E
 covers-through C D E c d = (
   λ x. sub d.0 (c.0 x),
   λ k l lt. subst (Contains E) (sub-sub d.0 c.0 (get_or C k l)) (All-contains (λ m. Contains E (sub d.0 m)) D (sub c.0 (get_or C k l)) d.1 (c.1 k l lt)),

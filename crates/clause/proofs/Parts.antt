@@ -1,6 +1,7 @@
 -- Lists without one of their elements.
-use Rattle.std.proofs.Common.{◌≡◌, ℕ, zero, suc, ◌≤◌, ◌⊎◌, inl, inr, List, [], ◌∷◌, get_or, All, Contains, remove, refl, ap, arith}
-use Rattle.std.proofs.lemmas.List.Elements.{All-append, All-take, All-drop}
+use Rattle.std.proofs.Common.{◌≡◌, ℕ, zero, suc, ◌≤◌, ◌⊎◌, inl, inr, List, [], ◌∷◌, get_or, All, Contains, remove, sym, refl, ap, ◌∙◌, arith}
+use Rattle.std.proofs.lemmas.List.{get_or_default}
+use Rattle.std.proofs.lemmas.List.Elements.{All-append, All-take, All-drop, Contains-get_or, All-contains, All-contains_itself}
 
 module _ {X : Type 0} where
   -- a member of a longer list
@@ -12,12 +13,18 @@ module _ {X : Type 0} where
   contains-cases x y xs (suc k, lt, e) = inr (k, omega arith, e)
 
   -- an element is the one that is left out, or stays
-  pub removed-cases : (xs : List X) (k : ℕ) (x : X) → Contains xs x → (get_or xs k x ≡ x) ⊎ Contains (remove xs k) x
-  removed-cases [] k x c = let lt = c.1 in absurd (omega arith)
-  removed-cases (y ∷ ys) zero x c = contains-cases y x ys c
-  removed-cases (y ∷ ys) (suc k) x (zero, lt, e) = inr (0, omega arith, e)
-  removed-cases (y ∷ ys) (suc k) x (suc i, lt, e) =
-      elim (removed-cases ys k x (i, omega arith, e)) [ inl h ↦ inl h | inr c ↦ inr (contains-tail y x (remove ys k) c) ]
+  cases-at : (xs : List X) (k : ℕ) (x : X) → Contains xs x → (get_or xs k x ≡ x) ⊎ Contains (remove xs k) x
+  cases-at [] k x c = let lt = c.1 in absurd (omega arith)
+  cases-at (y ∷ ys) zero x c = contains-cases y x ys c
+  cases-at (y ∷ ys) (suc k) x (zero, lt, e) = inr (0, omega arith, e)
+  cases-at (y ∷ ys) (suc k) x (suc i, lt, e) =
+      elim (cases-at ys k x (i, omega arith, e)) [ inl h ↦ inl h | inr c ↦ inr (contains-tail y x (remove ys k) c) ]
+
+  pub removed-cases : (xs : List X) (x y : X) (i : Contains xs x) → Contains xs y → (x ≡ y) ⊎ Contains (remove xs i.0) y
+  removed-cases xs x y i j = elim (cases-at xs i.0 y j) [ inl e ↦ inl (sym i.2 ∙ get_or_default xs i.0 x y i.1 ∙ e) | inr c ↦ inr c ]
+
+  pub All-from : (P : X → Type 0) (xs : List X) → ((x : X) → Contains xs x → P x) → All P xs
+  All-from P xs h k d lt = h (get_or xs k d) (Contains-get_or xs k d lt)
 
   pub All-remove : (P : X → Type 0) (xs : List X) (k : ℕ) → All P xs → All P (remove xs k)
   All-remove P xs k h = All-append P _ _ (All-take P k xs h) (All-drop P (suc k) xs h)
@@ -33,3 +40,6 @@ module _ {X : Type 0} where
   remove-remove (x ∷ xs) i zero h = refl
   remove-remove (x ∷ xs) zero (suc k) h = absurd (omega arith)
   remove-remove (x ∷ xs) (suc i) (suc k) h = ap (λ (ys : List X). x ∷ ys) (remove-remove xs i k (omega arith))
+
+  pub removed-contains : (xs : List X) (k : ℕ) (x : X) → Contains (remove xs k) x → Contains xs x
+  removed-contains xs k x = All-contains (Contains xs) (remove xs k) x (All-remove (Contains xs) xs k (All-contains_itself xs))
