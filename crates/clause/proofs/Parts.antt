@@ -1,10 +1,15 @@
 -- Lists without one of their elements.
-use Rattle.std.proofs.Common.{◌≡◌, ℕ, zero, suc, ◌≤◌, ◌⊎◌, inl, inr, List, [], ◌∷◌, get_or, All, Contains, remove, sym, refl, ap, ◌∙◌, arith}
+use Rattle.std.proofs.Common.{◌≡◌, ℕ, zero, suc, ◌≤◌, ◌⊎◌, inl, inr, List, [], ◌∷◌, get_or, All, Contains, remove, map, flat_map, sym, refl, ap, ◌∙◌, subst, arith}
 use Rattle.std.proofs.lemmas.List.{get_or_default}
-use Rattle.std.proofs.lemmas.List.Elements.{All-append, All-take, All-drop, Contains-get_or, All-contains, All-contains_itself}
+use Rattle.std.proofs.lemmas.List.Elements.{All-append, All-take, All-drop, Contains-get_or, Contains-append_left, Contains-append_right, Contains-append_cases, All-contains, All-contains_itself}
 
 module _ {X : Type 0} where
-  -- a member of a longer list
+  pub contains-none : (x : X) → Contains [] x → ⊥
+  contains-none x c = let lt = c.1 in omega arith
+
+  pub contains-head : (x y : X) (xs : List X) → x ≡ y → Contains (x ∷ xs) y
+  contains-head x y xs e = (0, omega arith, e)
+
   pub contains-tail : (x y : X) (xs : List X) → Contains xs y → Contains (x ∷ xs) y
   contains-tail x y xs c = let lt = c.1 in (suc c.0, omega arith, c.2)
 
@@ -43,3 +48,32 @@ module _ {X : Type 0} where
 
   pub removed-contains : (xs : List X) (k : ℕ) (x : X) → Contains (remove xs k) x → Contains xs x
   removed-contains xs k x = All-contains (Contains xs) (remove xs k) x (All-remove (Contains xs) xs k (All-contains_itself xs))
+
+module _ {X Y : Type 0} where
+  pub contains-map : (f : X → Y) (xs : List X) (x : X) → Contains xs x → Contains (map f xs) (f x)
+  contains-map f [] x c = absurd (contains-none x c)
+  contains-map f (y ∷ ys) x c = elim (contains-cases y x ys c) [
+    | inl e ↦ contains-head (f y) (f x) (map f ys) (ap f e)
+    | inr d ↦ contains-tail (f y) (f x) (map f ys) (contains-map f ys x d)
+  ]
+
+  pub map-contains : (f : X → Y) (xs : List X) (y : Y) → Contains (map f xs) y → (x : X) × Contains xs x × (f x ≡ y)
+  map-contains f [] y c = absurd (contains-none y c)
+  map-contains f (x ∷ xs) y c = elim (contains-cases (f x) y (map f xs) c) [
+    | inl e ↦ (x, contains-head x x xs refl, e)
+    | inr d ↦ let r = map-contains f xs y d in (r.0, contains-tail x r.0 xs r.1, r.2)
+  ]
+
+  pub contains-flat_map : (f : X → List Y) (xs : List X) (x : X) (y : Y) → Contains xs x → Contains (f x) y → Contains (flat_map f xs) y
+  contains-flat_map f [] x y c d = absurd (contains-none x c)
+  contains-flat_map f (z ∷ zs) x y c d = elim (contains-cases z x zs c) [
+    | inl e ↦ Contains-append_left (f z) (flat_map f zs) y (subst (λ u. Contains (f u) y) (sym e) d)
+    | inr k ↦ Contains-append_right (f z) (flat_map f zs) y (contains-flat_map f zs x y k d)
+  ]
+
+  pub flat_map-contains : (f : X → List Y) (xs : List X) (y : Y) → Contains (flat_map f xs) y → (x : X) × Contains xs x × Contains (f x) y
+  flat_map-contains f [] y c = absurd (contains-none y c)
+  flat_map-contains f (x ∷ xs) y c = elim (Contains-append_cases (f x) (flat_map f xs) y c) [
+    | inl d ↦ (x, contains-head x x xs refl, d)
+    | inr d ↦ let r = flat_map-contains f xs y d in (r.0, contains-tail x r.0 xs r.1, r.2)
+  ]

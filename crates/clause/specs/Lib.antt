@@ -1,2 +1,4 @@
 pub mod Clauses
 pub mod Reduction
+pub mod Variants
+pub mod Numbering
