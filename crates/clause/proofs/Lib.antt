@@ -6,3 +6,6 @@ pub mod Reductions
 pub mod Smallest
 pub mod Renamings
 pub mod Variations
+pub mod Literals
+pub mod Settled
+pub mod Generalisations
