@@ -1,8 +1,11 @@
 -- Numbers in the order of their first standing.
-use Rattle.std.proofs.Common.{◌≡◌, ℕ, ◌⊎◌, List, [], ◌∷◌, Contains, fold, inl, inr, sym, refl, subst}
+use Rattle.std.proofs.Common.{max, get_or, map, length, ap, ◌∙◌, ◌<◌, ◌≤◌, suc, ◌≡◌, ℕ, ◌⊎◌, List, [], ◌∷◌, Contains, fold, inl, inr, sym, refl, subst, arith}
 use Rattle.std.proofs.Math.Decide.{ℕ_discrete}
-use Rattle.term.proofs.Cases.{by-test}
-use Rattle.clause.specs.Numbering.{enlist, firsts}
+use Rattle.std.proofs.lemmas.Bool.{cases_lt}
+use Rattle.term.specs.Lawful.{Numbered}
+use Rattle.term.proofs.Cases.{by-test, by-test-both}
+use Rattle.std.proofs.Math.Logic.{ite}
+use Rattle.clause.specs.Numbering.{enlist, rank, firsts}
 use Rattle.clause.proofs.Parts.{contains-none, contains-head, contains-tail, contains-cases}
 use Rattle.clause.proofs.Counts.{Apart}
 
@@ -65,3 +68,81 @@ firsts-only xs x c = elim (all-cases [] xs x c) [ inl d ↦ absurd (contains-non
 
 pub firsts-apart : (xs : List ℕ) → Apart (firsts xs)
 firsts-apart xs = all-apart [] xs tt
+
+-- the place of a number
+pub rank-read : (ys : List ℕ) (x d : ℕ) → Contains ys x → get_or ys (rank ys x) d ≡ x
+rank-read [] x d c = absurd (contains-none x c)
+rank-read (y ∷ ys) x d c =
+    by-test (λ (k : ℕ). get_or (y ∷ ys) k d ≡ x) (ℕ_discrete x y) (λ e. sym e)
+    (λ n. elim (contains-cases y x ys c) [ inl e ↦ absurd (n (sym e)) | inr i ↦ rank-read ys x d i ])
+
+pub rank-apart : (ys : List ℕ) (x y : ℕ) → Contains ys x → Contains ys y → rank ys x ≡ rank ys y → x ≡ y
+rank-apart ys x y i j e = sym (rank-read ys x 0 i) ∙ ap (λ k. get_or ys k 0) e ∙ rank-read ys y 0 j
+
+rank-within : (ys : List ℕ) (x : ℕ) → rank ys x ≤ length ys
+rank-within [] x = omega arith
+rank-within (y ∷ ys) x = by-test (λ (k : ℕ). k ≤ suc (length ys)) (ℕ_discrete x y) (λ _. omega arith) (λ _. omega (arith, rank-within ys x))
+
+rank-enlist : (ys : List ℕ) (x : ℕ) → rank (enlist ys x) x ≡ rank ys x
+rank-enlist [] x = by-test (λ (k : ℕ). ◌≡◌ {A = ℕ} k 0) (ℕ_discrete x x) (λ _. refl) (λ n. absurd (n refl))
+rank-enlist (y ∷ ys) x =
+    elim (ℕ_discrete x y) as (λ d. ite d 0 (suc (rank (ite d ys (enlist ys x)) x)) ≡ ite d 0 (suc (rank ys x)))
+    [ yes e ↦ refl | no n ↦ ap suc (rank-enlist ys x) ]
+
+length-enlist : (ys : List ℕ) (x : ℕ) → length (enlist ys x) ≡ max (length ys) (suc (rank ys x))
+length-enlist [] x = refl
+length-enlist (y ∷ ys) x =
+    by-test-both (λ (l : List ℕ) (k : ℕ). suc (length l) ≡ max (suc (length ys)) (suc k)) (ℕ_discrete x y) (λ _. omega arith) (λ _. omega (arith, length-enlist ys x))
+
+-- a number that has a place keeps it
+rank-stays : (ys : List ℕ) (x y : ℕ) → rank ys y < length ys → rank (enlist ys x) y ≡ rank ys y
+rank-stays [] x y h = absurd (omega arith)
+rank-stays (z ∷ ys) x y h =
+    by-test (λ (l : List ℕ). rank (z ∷ l) y ≡ rank (z ∷ ys) y) (ℕ_discrete x z) (λ _. refl)
+    (λ _. by-test-both (λ (k n : ℕ). n < suc (length ys) → k ≡ n) (ℕ_discrete y z) (λ _ _. refl) (λ _ i. ap suc (rank-stays ys x y (omega arith))) h)
+
+rank-stays-all : (ys xs : List ℕ) (y : ℕ) → rank ys y < length ys → rank (fold enlist ys xs) y ≡ rank ys y
+rank-stays-all ys [] y h = refl
+rank-stays-all ys (x ∷ xs) y h =
+    let e = rank-stays ys x y h in
+    rank-stays-all (enlist ys x) xs y (omega (arith, length-enlist ys x)) ∙ e
+
+-- by their places numbers are numbered in the order of their first standing
+numbered-from : (ys xs : List ℕ) → Numbered (length ys) (map (rank (fold enlist ys xs)) xs)
+numbered-from ys [] = tt
+numbered-from ys (x ∷ xs) =
+    let zs = enlist ys x in
+    let r = rank (fold enlist zs xs) x in
+    let long = length-enlist ys x in
+    let e : r ≡ rank ys x = rank-stays-all zs xs x (omega (arith, rank-enlist ys x)) ∙ rank-enlist ys x in
+    let n : length zs ≡ max (length ys) (suc r) = omega arith in
+    (omega (arith, rank-within ys x), subst (λ k. Numbered k (map (rank (fold enlist zs xs)) xs)) n (numbered-from zs xs))
+
+pub firsts-numbered : (xs : List ℕ) → Numbered 0 (map (rank (firsts xs)) xs)
+firsts-numbered xs = numbered-from [] xs
+
+-- numbers that are numbered both before and after a function that keeps them apart are not changed by it
+module _ (r : ℕ → ℕ) (In : ℕ → Type 0) (apart : (x y : ℕ) → In x → In y → r x ≡ r y → x ≡ y) where
+  pub unchanged : (n : ℕ) (xs : List ℕ) → ((y : ℕ) → y < n → In y × (r y ≡ y)) → ((y : ℕ) → Contains xs y → In y) → Numbered n xs → Numbered n (map r xs)
+      → (x : ℕ) → Contains xs x → r x ≡ x
+  unchanged n [] below inside p q x c = absurd (contains-none x c)
+  unchanged n (y ∷ ys) below inside p q x c =
+      elim (contains-cases y x ys c) [
+        | inl e ↦ subst (λ z. r z ≡ z) e first
+        | inr d ↦ unchanged (max n (suc y)) ys more (λ z i. inside z (contains-tail y z ys i)) p.1 (subst (λ z. Numbered (max n (suc z)) (map r ys)) first q.1) x d
+      ]
+    where
+      within : In y
+      within = inside y (contains-head y y ys refl)
+
+      first : r y ≡ y
+      first = elim (cases_lt y n) [
+        | inl lt ↦ (below y lt).1
+        | inr le ↦ elim (cases_lt (r y) n) [ inl lt ↦ (let b = below (r y) lt in apart (r y) y b.0 within b.1) | inr ge ↦ omega (arith, p.0, q.0) ]
+      ]
+
+      more : (z : ℕ) → z < max n (suc y) → In z × (r z ≡ z)
+      more z lt = elim (cases_lt z n) [
+        | inl l ↦ below z l
+        | inr ge ↦ (let e : y ≡ z = omega (arith, p.0) in (subst In e within, subst (λ k. r k ≡ k) e first))
+      ]

@@ -8,6 +8,10 @@ use Rattle.term.proofs.Cases.{by-test}
 use Rattle.term.proofs.Substitutions.{size-sub, len-subs}
 use Rattle.term.proofs.Tables.{Grown, grown-itself, grown-on, grown-join, left, right, join-sides}
 use Rattle.clause.specs.Clauses.{Literal, Covers}
+use Rattle.clause.specs.Narrowness.{NarrowOver}
+use Rattle.term.specs.declared.node.Symbol.{Symbol}
+use Rattle.term.proofs.Kept.{joins-narrow}
+use Rattle.term.proofs.Joinings.{len-joins}
 use Rattle.clause.specs.Joins.{Fit, fit_decided, row, rows, raw}
 use Rattle.clause.proofs.Parts.{All-from, contains-none, contains-head, contains-tail, contains-cases}
 use Rattle.clause.proofs.Literals.{literal-over}
@@ -131,6 +135,16 @@ join-literal (app s us) (app t vs) T f h =
 
 pub raw-literals : (C D : List Word) → All Literal C → All Literal (raw C D)
 raw-literals = raw-kept Literal join-literal
+
+join-over : (S : Symbol → Type 0) (l m : Word) (T : Table) → Fit l m → NarrowOver S l → NarrowOver S (join l m T).0
+join-over S (var x) m T f n = absurd f
+join-over S (app s us) (var y) T f n = absurd f
+join-over S (app s us) (app t vs) T f n =
+    by-test (λ (r : Word × Table). NarrowOver S r.0) (alike_decided s us t vs)
+    (λ a. (n.0, omega (arith, n.1, len-joins us vs T a.1), joins-narrow us vs T n.2)) (λ k. absurd (k f))
+
+pub raw-narrow : (S : Symbol → Type 0) (C D : List Word) → All (NarrowOver S) C → All (NarrowOver S) (raw C D)
+raw-narrow S = raw-kept (NarrowOver S) (join-over S)
 
 -- how large it is
 length-row : (l : Word) (D : List Word) (T : Table) → length (row l D T).0 ≤ length D

@@ -9,3 +9,4 @@ pub mod Variations
 pub mod Literals
 pub mod Settled
 pub mod Generalisations
+pub mod Numberings

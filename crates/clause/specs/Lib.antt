@@ -3,3 +3,4 @@ pub mod Reduction
 pub mod Variants
 pub mod Joins
 pub mod Numbering
+pub mod Narrowness
