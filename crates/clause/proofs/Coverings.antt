@@ -6,6 +6,10 @@ use Rattle.term.proofs.Substitutions.{sub-var, sub-sub}
 use Rattle.clause.specs.Clauses.{Covers}
 use Rattle.clause.proofs.Parts.{All-remove}
 
+-- where a substitution takes a literal
+pub takes : (C D : List Word) (c : Covers C D) (l : Word) → Contains C l → Contains D (sub c.0 l)
+takes C D c l = All-contains (λ m. Contains D (sub c.0 m)) C l c.1
+
 -- a clause whose literals are all in another covers it
 pub covers-part : (C D : List Word) → All (Contains D) C → Covers C D
 covers-part C D h = (var, λ k d lt. subst (Contains D) (sym (sub-var _)) (h k d lt))
@@ -19,7 +23,7 @@ none-covers D = covers-part [] D (All-nil (Contains D))
 unfoldable pub covers-through : (C D E : List Word) → Covers C D → Covers D E → Covers C E
 covers-through C D E c d = (
   λ x. sub d.0 (c.0 x),
-  λ k l lt. subst (Contains E) (sub-sub d.0 c.0 (get_or C k l)) (All-contains (λ m. Contains E (sub d.0 m)) D (sub c.0 (get_or C k l)) d.1 (c.1 k l lt)),
+  λ k l lt. subst (Contains E) (sub-sub d.0 c.0 (get_or C k l)) (takes D E d (sub c.0 (get_or C k l)) (c.1 k l lt)),
 )
 
 -- what is left without one literal covers the whole

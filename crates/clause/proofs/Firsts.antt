@@ -1,5 +1,5 @@
 -- Numbers in the order of their first standing.
-use Rattle.std.proofs.Common.{max, get_or, map, length, ap, ◌∙◌, ◌<◌, ◌≤◌, suc, ◌≡◌, ℕ, ◌⊎◌, List, [], ◌∷◌, Contains, fold, inl, inr, sym, refl, subst, arith}
+use Rattle.std.proofs.Common.{◌≡◌, ℕ, suc, ◌<◌, ◌≤◌, max, ◌⊎◌, List, [], ◌∷◌, length, get_or, map, Contains, fold, inl, inr, sym, refl, ap, ◌∙◌, subst, arith}
 use Rattle.std.proofs.Math.Decide.{ℕ_discrete}
 use Rattle.std.proofs.lemmas.Bool.{cases_lt}
 use Rattle.term.specs.Lawful.{Numbered}

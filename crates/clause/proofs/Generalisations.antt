@@ -4,19 +4,19 @@ use Rattle.std.proofs.lemmas.List.Elements.{All-nil, All-cons, All-head, All-tai
 use Rattle.std.proofs.lemmas.List.Sums.{sum_by-cons, sum_by-append, sum_by-le}
 use Rattle.term.specs.Words.{Word, var, app, sub, size}
 use Rattle.term.specs.Joins.{Table, alike_decided, join, joins}
+use Rattle.term.specs.declared.node.Symbol.{Symbol}
 use Rattle.term.proofs.Cases.{by-test}
 use Rattle.term.proofs.Substitutions.{size-sub, len-subs}
 use Rattle.term.proofs.Tables.{Grown, grown-itself, grown-on, grown-join, left, right, join-sides}
+use Rattle.term.proofs.Joinings.{len-joins}
+use Rattle.term.proofs.Kept.{joins-narrow}
 use Rattle.clause.specs.Clauses.{Literal, Covers}
 use Rattle.clause.specs.Narrowness.{NarrowOver}
-use Rattle.term.specs.declared.node.Symbol.{Symbol}
-use Rattle.term.proofs.Kept.{joins-narrow}
-use Rattle.term.proofs.Joinings.{len-joins}
 use Rattle.clause.specs.Joins.{Fit, fit_decided, row, rows, raw}
 use Rattle.clause.proofs.Parts.{All-from, contains-none, contains-head, contains-tail, contains-cases}
+use Rattle.clause.proofs.Coverings.{takes}
 use Rattle.clause.proofs.Literals.{literal-over}
 use Rattle.clause.proofs.Settled.{settled, meets, settled-sub}
-use Rattle.clause.proofs.Smallest.{takes}
 
 -- the table grows
 grown-row : (l : Word) (D : List Word) (T : Table) → Grown T (row l D T).1

@@ -5,8 +5,10 @@ pub mod Coverings
 pub mod Reductions
 pub mod Smallest
 pub mod Renamings
+pub mod Each
 pub mod Variations
 pub mod Literals
 pub mod Settled
 pub mod Generalisations
 pub mod Numberings
+pub mod Limits

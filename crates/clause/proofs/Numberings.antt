@@ -20,14 +20,14 @@ use Rattle.clause.proofs.Renamings.{sub-same, variables-renamed}
 use Rattle.clause.proofs.Variations.{variant-down, variant-up}
 
 -- a function keeps the variables of a clause apart
-abbrev Parts : (ℕ → ℕ) → List Word → Type 0
-Parts r C = (x y : ℕ) → Contains (variables C) x → Contains (variables C) y → r x ≡ r y → x ≡ y
+abbrev KeepsApart : (ℕ → ℕ) → List Word → Type 0
+KeepsApart r C = (x y : ℕ) → Contains (variables C) x → Contains (variables C) y → r x ≡ r y → x ≡ y
 
 module _ (r : ℕ → ℕ) where
-  renamed-variant : (C : List Word) → Parts r C → Variant C (renamed r C)
-  renamed-variant C p = record { renaming = r; apart = p; equal = (All-contains_itself (renamed r C), All-contains_itself (renamed r C)) }
+  renamed-variant : (C : List Word) → KeepsApart r C → Variant C (renamed r C)
+  renamed-variant C p = record { renaming = r; apart = p; same = (All-contains_itself (renamed r C), All-contains_itself (renamed r C)) }
 
-  removed-parts : (C : List Word) (k : ℕ) → Parts r C → Parts r (remove C k)
+  removed-parts : (C : List Word) (k : ℕ) → KeepsApart r C → KeepsApart r (remove C k)
   removed-parts C k p x y i j = p x y (still x i) (still y j)
     where
       still : (x : ℕ) → Contains (variables (remove C k)) x → Contains (variables C) x
@@ -39,7 +39,7 @@ module _ (r : ℕ → ℕ) where
   remove-renamed (l ∷ C) zero = refl
   remove-renamed (l ∷ C) (suc k) = ap (λ (D : List Word). sub (λ x. var (r x)) l ∷ D) (remove-renamed C k)
 
-  renamed-tidy : (C : List Word) → Parts r C → Tidy C → Tidy (renamed r C)
+  renamed-tidy : (C : List Word) → KeepsApart r C → Tidy C → Tidy (renamed r C)
   renamed-tidy C p t k lt c =
       t k (omega (arith, length-map C (sub (λ x. var (r x)))))
       (covers-through C (renamed r C) (remove C k) (variant-down C (renamed r C) (renamed-variant C p))
@@ -85,7 +85,7 @@ module _ (C : List Word) where
   abbrev places : ℕ → ℕ
   places = rank (firsts (variables C))
 
-  places-part : Parts places C
+  places-part : KeepsApart places C
   places-part x y i j e = rank-apart (firsts (variables C)) x y (firsts-have (variables C) x i) (firsts-have (variables C) y j) e
 
   pub renumbered-variant : Variant C (renumbered C)

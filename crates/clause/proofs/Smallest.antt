@@ -1,7 +1,6 @@
 -- No clause that says the same is smaller than a tidy one.
 use Rattle.std.proofs.Common.{◌≡◌, ℕ, ◌≤◌, ◌≢◌, List, length, remove, AllPairs, Contains, sum_by, inl, inr, sym, refl, ap, ◌∙◌, subst, arith}
 use Rattle.std.proofs.Math.Decide.{ℕ_discrete}
-use Rattle.std.proofs.lemmas.List.Elements.{All-contains}
 use Rattle.term.specs.Joins.{Symbol-discrete}
 use Rattle.term.specs.Words.{Word, size, sub, Word-discrete}
 use Rattle.term.proofs.Substitutions.{sub-sub, size-sub}
@@ -9,14 +8,10 @@ use Rattle.clause.specs.Clauses.{Covers}
 use Rattle.clause.specs.Reduction.{Tidy}
 use Rattle.clause.proofs.Parts.{All-from, removed-cases}
 use Rattle.clause.proofs.Counts.{Apart, apart-from, ones, partners, onto-apart, pairs_apart, found}
-use Rattle.clause.proofs.Coverings.{covers-part, covers-through}
+use Rattle.clause.proofs.Coverings.{takes, covers-part, covers-through}
 
 pub same-word : Discrete Word
 same-word = Word-discrete ℕ_discrete Symbol-discrete
-
--- where a substitution takes a literal
-pub takes : (C D : List Word) (c : Covers C D) (l : Word) → Contains C l → Contains D (sub c.0 l)
-takes C D c l = All-contains (λ m. Contains D (sub c.0 m)) C l c.1
 
 module _ (C : List Word) (t : Tidy C) where
   -- no literal stands twice

@@ -11,8 +11,8 @@ use Rattle.clause.specs.Numbering.{firsts}
 use Rattle.clause.proofs.Parts.{All-from, removed-cases, removed-contains, contains-map, map-contains, contains-flat_map, flat_map-contains}
 use Rattle.clause.proofs.Counts.{apart-removed, sum_by-part, ones, partners, onto-apart, found}
 use Rattle.clause.proofs.Firsts.{firsts-have, firsts-only, firsts-apart}
-use Rattle.clause.proofs.Coverings.{covers-through}
-use Rattle.clause.proofs.Smallest.{takes, tidy-once, tidy-apart, tidy-onto, tidy-one-to-one, least-sum}
+use Rattle.clause.proofs.Coverings.{takes, covers-through}
+use Rattle.clause.proofs.Smallest.{tidy-once, tidy-apart, tidy-onto, tidy-one-to-one, least-sum}
 use Rattle.clause.proofs.Renamings.{symbols, symbols-sub, sub-same, vars-renamed, name, name-of}
 
 symbols-grow : (θ : ℕ → Word) (u : Word) → symbols u ≤ symbols (sub θ u)
@@ -74,7 +74,7 @@ tidy-variants C D t u c d =
       renaming = new;
       apart = λ x y i j. onto-apart ℕ_discrete new (firsts (variables C)) (firsts (variables D)) (firsts-apart (variables D)) (names-onto C D t u c d)
           (names-fewer D C u t d c) x y (firsts-have (variables C) x i) (firsts-have (variables C) y j);
-      equal = (
+      same = (
         All-from (Contains D) (renamed new C)
             (λ m i. let r = map-contains (sub (λ x. var (new x))) C m i in subst (Contains D) (new-is C D t u c d r.0 r.1 ∙ r.2) (takes C D c r.0 r.1)),
         All-from (Contains (renamed new C)) D
@@ -87,7 +87,7 @@ module _ (C D : List Word) (v : Variant C D) where
   variant-down = (
     λ x. var (v.renaming x),
     All-from (λ l. Contains D (sub (λ x. var (v.renaming x)) l)) C
-        (λ l i. All-contains (Contains D) (renamed v.renaming C) (sub (λ x. var (v.renaming x)) l) v.equal.0 (contains-map (sub (λ x. var (v.renaming x))) C l i)),
+        (λ l i. All-contains (Contains D) (renamed v.renaming C) (sub (λ x. var (v.renaming x)) l) v.same.0 (contains-map (sub (λ x. var (v.renaming x))) C l i)),
   )
 
   -- the variable that was renamed
@@ -115,6 +115,6 @@ module _ (C D : List Word) (v : Variant C D) where
   variant-up = (
     back,
     All-from (λ m. Contains C (sub back m)) D
-        (λ m i. let r = map-contains (sub (λ x. var (v.renaming x))) C m (All-contains (Contains (renamed v.renaming C)) D m v.equal.1 i) in
+        (λ m i. let r = map-contains (sub (λ x. var (v.renaming x))) C m (All-contains (Contains (renamed v.renaming C)) D m v.same.1 i) in
         subst (Contains C) (sym (home r.0 r.1) ∙ ap (sub back) r.2) r.1),
   )

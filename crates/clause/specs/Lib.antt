@@ -4,3 +4,4 @@ pub mod Variants
 pub mod Joins
 pub mod Numbering
 pub mod Narrowness
+pub mod Least

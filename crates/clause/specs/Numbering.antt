@@ -5,7 +5,7 @@ use Rattle.std.proofs.Math.Decide.{ℕ_discrete}
 use Rattle.term.specs.Words.{Word}
 use Rattle.clause.specs.Variants.{variables, renamed}
 
--- a new number comes last
+-- numbers in the order of their first standing, with one more: a new one comes last
 abbrev pub enlist : List ℕ → ℕ → List ℕ
 enlist [] x = x ∷ []
 enlist (y ∷ ys) x = y ∷ ite (ℕ_discrete x y) ys (enlist ys x)

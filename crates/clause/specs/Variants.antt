@@ -11,11 +11,11 @@ abbrev pub renamed : (ℕ → ℕ) → List Word → List Word
 renamed r C = map (sub (λ x. var (r x))) C
 
 -- the same set of literals
-abbrev pub Equal : List Word → List Word → Type 0
-Equal C D = All (Contains D) C × All (Contains C) D
+abbrev pub SameSet : List Word → List Word → Type 0
+SameSet C D = All (Contains D) C × All (Contains C) D
 
 -- replacing distinct variables by distinct variables turns C into D
 pub record Variant (C D : List Word) : Type 0 where
   pub renaming : ℕ → ℕ
   pub apart : (x y : ℕ) → Contains (variables C) x → Contains (variables C) y → renaming x ≡ renaming y → x ≡ y
-  pub equal : Equal (renamed renaming C) D
+  pub same : SameSet (renamed renaming C) D
