@@ -1,10 +1,10 @@
 -- Numbers in the order of their first standing.
 use Rattle.std.proofs.Common.{◌≡◌, ℕ, suc, ◌<◌, ◌≤◌, max, ◌⊎◌, List, [], ◌∷◌, length, get_or, map, Contains, fold, inl, inr, sym, refl, ap, ◌∙◌, subst, arith}
 use Rattle.std.proofs.Math.Decide.{ℕ_discrete}
+use Rattle.std.proofs.Math.Logic.{ite}
 use Rattle.std.proofs.lemmas.Bool.{cases_lt}
 use Rattle.term.specs.Lawful.{Numbered}
 use Rattle.term.proofs.Cases.{by-test, by-test-both}
-use Rattle.std.proofs.Math.Logic.{ite}
 use Rattle.clause.specs.Numbering.{enlist, rank, firsts}
 use Rattle.clause.proofs.Parts.{contains-none, contains-head, contains-tail, contains-cases}
 use Rattle.clause.proofs.Counts.{Apart}
