@@ -1,4 +1,5 @@
 pub mod Clauses
+pub mod Beginnings
 pub mod Reduction
 pub mod Variants
 pub mod Joins

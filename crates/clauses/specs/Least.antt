@@ -1,7 +1,7 @@
 -- The least clause over two, and the limit on its size.
 use Rattle.std.specs.Prelude.{◌≤◌, List, length, All, sum_by}
 use Rattle.term.specs.Words.{Word, size}
-use Rattle.clause.specs.Clauses.{Literal, Covers}
+use Rattle.clauses.specs.Clauses.{Literal, Covers}
 
 -- at most 16 literals and 256 nodes
 abbrev pub Within : List Word → Type 0

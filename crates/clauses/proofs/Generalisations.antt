@@ -10,13 +10,13 @@ use Rattle.term.proofs.Substitutions.{size-sub, len-subs}
 use Rattle.term.proofs.Tables.{Grown, grown-itself, grown-on, grown-join, left, right, join-sides}
 use Rattle.term.proofs.Joinings.{len-joins}
 use Rattle.term.proofs.Kept.{joins-narrow}
-use Rattle.clause.specs.Clauses.{Literal, Covers}
-use Rattle.clause.specs.Narrowness.{NarrowOver}
-use Rattle.clause.specs.Joins.{Fit, fit_decided, row, rows, raw}
-use Rattle.clause.proofs.Parts.{All-from, contains-none, contains-head, contains-tail, contains-cases}
-use Rattle.clause.proofs.Coverings.{takes}
-use Rattle.clause.proofs.Literals.{literal-over}
-use Rattle.clause.proofs.Settled.{settled, meets, settled-sub}
+use Rattle.clauses.specs.Clauses.{Literal, Covers}
+use Rattle.clauses.specs.Narrowness.{NarrowOver}
+use Rattle.clauses.specs.Joins.{Fit, fit_decided, row, rows, raw}
+use Rattle.clauses.proofs.Parts.{All-from, contains-none, contains-head, contains-tail, contains-cases}
+use Rattle.clauses.proofs.Coverings.{takes}
+use Rattle.clauses.proofs.Literals.{literal-over}
+use Rattle.clauses.proofs.Settled.{settled, meets, settled-sub}
 
 -- the table grows
 grown-row : (l : Word) (D : List Word) (T : Table) → Grown T (row l D T).1

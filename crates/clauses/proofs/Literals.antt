@@ -3,7 +3,7 @@ use Rattle.std.proofs.Common.{ℕ}
 use Rattle.term.specs.Words.{Word, var, app, Words, sub, subs}
 use Rattle.term.specs.declared.node.Symbol.{Symbol}
 use Rattle.term.specs.declared.node.Symbol.TheVariants.{Function, Positive, Negative}
-use Rattle.clause.specs.Clauses.{Literal}
+use Rattle.clauses.specs.Clauses.{Literal}
 
 pub literal-over : (s : Symbol) (us vs : Words) → Literal (app s us) → Literal (app s vs)
 literal-over (Function f) us vs h = absurd h

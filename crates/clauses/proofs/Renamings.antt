@@ -3,8 +3,8 @@ use Rattle.std.proofs.Common.{◌≡◌, ℕ, suc, ◌+◌, List, [], ◌∷◌,
 use Rattle.std.proofs.lemmas.List.Elements.{Contains-append_left, Contains-append_right}
 use Rattle.std.proofs.lemmas.List.Sums.{sum_by-append}
 use Rattle.term.specs.Words.{Word, var, app, Words, nil, cons, vars, varss, sub, subs}
-use Rattle.clause.specs.Variants.{variables, renamed}
-use Rattle.clause.proofs.Parts.{contains-head}
+use Rattle.clauses.specs.Variants.{variables, renamed}
+use Rattle.clauses.proofs.Parts.{contains-head}
 
 -- the nodes that are no variables
 abbrev mutual

@@ -2,8 +2,8 @@
 use Rattle.std.proofs.Common.{◌≡◌, ℕ, suc, List, ◌++◌, length, sum_by, refl, ap, arith}
 use Rattle.std.proofs.lemmas.List.Sums.{sum_by-cons}
 use Rattle.term.specs.Words.{Words, nil, cons, len, size, sizes, vars, varss}
-use Rattle.clause.specs.Clauses.{each}
-use Rattle.clause.specs.Variants.{variables}
+use Rattle.clauses.specs.Clauses.{each}
+use Rattle.clauses.specs.Variants.{variables}
 
 pub length-each : (us : Words) → length (each us) ≡ len us
 length-each nil = refl

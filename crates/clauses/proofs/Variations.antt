@@ -4,16 +4,16 @@ use Rattle.std.proofs.Math.Decide.{ℕ_discrete}
 use Rattle.std.proofs.lemmas.List.Elements.{All-contains}
 use Rattle.term.specs.Words.{Word, var, vars, sub}
 use Rattle.term.proofs.Substitutions.{sub-var, sub-sub}
-use Rattle.clause.specs.Clauses.{Covers}
-use Rattle.clause.specs.Reduction.{Tidy}
-use Rattle.clause.specs.Variants.{variables, renamed, Variant}
-use Rattle.clause.specs.Numbering.{firsts}
-use Rattle.clause.proofs.Parts.{All-from, removed-cases, removed-contains, contains-map, map-contains, contains-flat_map, flat_map-contains}
-use Rattle.clause.proofs.Counts.{apart-removed, sum_by-part, ones, partners, onto-apart, found}
-use Rattle.clause.proofs.Firsts.{firsts-have, firsts-only, firsts-apart}
-use Rattle.clause.proofs.Coverings.{takes, covers-through}
-use Rattle.clause.proofs.Smallest.{tidy-once, tidy-apart, tidy-onto, tidy-one-to-one, least-sum}
-use Rattle.clause.proofs.Renamings.{symbols, symbols-sub, sub-same, vars-renamed, name, name-of}
+use Rattle.clauses.specs.Clauses.{Covers}
+use Rattle.clauses.specs.Reduction.{Tidy}
+use Rattle.clauses.specs.Variants.{variables, renamed, Variant}
+use Rattle.clauses.specs.Numbering.{firsts}
+use Rattle.clauses.proofs.Parts.{All-from, removed-cases, removed-contains, contains-map, map-contains, contains-flat_map, flat_map-contains}
+use Rattle.clauses.proofs.Counts.{apart-removed, sum_by-part, ones, partners, onto-apart, found}
+use Rattle.clauses.proofs.Firsts.{firsts-have, firsts-only, firsts-apart}
+use Rattle.clauses.proofs.Coverings.{takes, covers-through}
+use Rattle.clauses.proofs.Smallest.{tidy-once, tidy-apart, tidy-onto, tidy-one-to-one, least-sum}
+use Rattle.clauses.proofs.Renamings.{symbols, symbols-sub, sub-same, vars-renamed, name, name-of}
 
 symbols-grow : (θ : ℕ → Word) (u : Word) → symbols u ≤ symbols (sub θ u)
 symbols-grow θ u = omega (arith, symbols-sub θ u)

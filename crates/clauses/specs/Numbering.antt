@@ -3,7 +3,7 @@ use Rattle.std.specs.Prelude.{ℕ, suc, List, [], ◌∷◌, fold}
 use Rattle.std.proofs.Math.Logic.{ite}
 use Rattle.std.proofs.Math.Decide.{ℕ_discrete}
 use Rattle.term.specs.Words.{Word}
-use Rattle.clause.specs.Variants.{variables, renamed}
+use Rattle.clauses.specs.Variants.{variables, renamed}
 
 -- numbers in the order of their first standing, with one more: a new one comes last
 abbrev pub enlist : List ℕ → ℕ → List ℕ

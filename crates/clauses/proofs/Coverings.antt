@@ -3,8 +3,8 @@ use Rattle.std.proofs.Common.{ℕ, [], List, All, Contains, get_or, remove, subs
 use Rattle.std.proofs.lemmas.List.Elements.{All-nil, All-contains, All-contains_itself}
 use Rattle.term.specs.Words.{Word, var, sub}
 use Rattle.term.proofs.Substitutions.{sub-var, sub-sub}
-use Rattle.clause.specs.Clauses.{Covers}
-use Rattle.clause.proofs.Parts.{All-remove}
+use Rattle.clauses.specs.Clauses.{Covers}
+use Rattle.clauses.proofs.Parts.{All-remove}
 
 -- where a substitution takes a literal
 pub takes : (C D : List Word) (c : Covers C D) (l : Word) → Contains C l → Contains D (sub c.0 l)

@@ -1,17 +1,17 @@
 -- The tidied join of two clauses is least over both, and is within the limit exactly if some least clause is.
 use Rattle.std.proofs.Common.{◌↔◌, List, All, le_trans, arith}
 use Rattle.term.specs.Words.{Word, size}
-use Rattle.clause.specs.Clauses.{Literal, Covers}
-use Rattle.clause.specs.Reduction.{Tidies}
-use Rattle.clause.specs.Joins.{raw}
-use Rattle.clause.specs.Least.{Within, Least}
-use Rattle.clause.specs.Numbering.{renumbered}
-use Rattle.clause.proofs.Coverings.{covers-through}
-use Rattle.clause.proofs.Generalisations.{raw-left, raw-right, raw-least, raw-literals}
-use Rattle.clause.proofs.Numberings.{renumbered-variant, renumbered-literals, length-renumbered, size-renumbered}
-use Rattle.clause.proofs.Reductions.{tidies-tidy, tidies-down, tidies-up, All-tidies, length-tidies, sum_by-tidies}
-use Rattle.clause.proofs.Smallest.{tidy-fewest, tidy-smallest}
-use Rattle.clause.proofs.Variations.{variant-down, variant-up}
+use Rattle.clauses.specs.Clauses.{Literal, Covers}
+use Rattle.clauses.specs.Reduction.{Tidies}
+use Rattle.clauses.specs.Joins.{raw}
+use Rattle.clauses.specs.Least.{Within, Least}
+use Rattle.clauses.specs.Numbering.{renumbered}
+use Rattle.clauses.proofs.Coverings.{covers-through}
+use Rattle.clauses.proofs.Generalisations.{raw-left, raw-right, raw-least, raw-literals}
+use Rattle.clauses.proofs.Numberings.{renumbered-variant, renumbered-literals, length-renumbered, size-renumbered}
+use Rattle.clauses.proofs.Reductions.{tidies-tidy, tidies-down, tidies-up, All-tidies, length-tidies, sum_by-tidies}
+use Rattle.clauses.proofs.Smallest.{tidy-fewest, tidy-smallest}
+use Rattle.clauses.proofs.Variations.{variant-down, variant-up}
 
 module _ (C D : List Word) where
   pub raw_is_least : All Literal C → Least C D (raw C D)

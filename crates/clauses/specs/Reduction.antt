@@ -1,7 +1,7 @@
 -- Tidying a clause: dropping the literals that the others make needless.
 use Rattle.std.specs.Prelude.{ℕ, ◌+◌, ◌<◌, ◌≤◌, List, length, remove}
 use Rattle.term.specs.Words.{Word}
-use Rattle.clause.specs.Clauses.{Covers}
+use Rattle.clauses.specs.Clauses.{Covers}
 
 -- a clause is tidy if it covers none of what is left of it without one literal
 abbrev pub Tidy : List Word → Type 0

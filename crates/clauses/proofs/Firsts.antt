@@ -5,9 +5,9 @@ use Rattle.std.proofs.Math.Logic.{ite}
 use Rattle.std.proofs.lemmas.Bool.{cases_lt}
 use Rattle.term.specs.Lawful.{Numbered}
 use Rattle.term.proofs.Cases.{by-test, by-test-both}
-use Rattle.clause.specs.Numbering.{enlist, rank, firsts}
-use Rattle.clause.proofs.Parts.{contains-none, contains-head, contains-tail, contains-cases}
-use Rattle.clause.proofs.Counts.{Apart}
+use Rattle.clauses.specs.Numbering.{enlist, rank, firsts}
+use Rattle.clauses.proofs.Parts.{contains-none, contains-head, contains-tail, contains-cases}
+use Rattle.clauses.proofs.Counts.{Apart}
 
 module _ (x : ℕ) where
   enlist-keeps : (ys : List ℕ) (y : ℕ) → Contains ys y → Contains (enlist ys x) y

@@ -2,7 +2,7 @@
 use Rattle.std.proofs.Common.{◌≡◌, ℕ, zero, suc, ◌+◌, ◌<◌, ◌≤◌, ◌≢◌, ◌⊎◌, List, [], ◌∷◌, length, remove, AllPairs, Contains, sum_by, inl, inr, sym, refl, ap, ◌∙◌, subst, arith}
 use Rattle.std.proofs.lemmas.List.Sums.{sum_by-cons, sum_by-remove}
 use Rattle.std.proofs.lemmas.List.Kept.{AllPairs-cons}
-use Rattle.clause.proofs.Parts.{All-from, contains-tail, contains-cases, removed-cases, removed-contains}
+use Rattle.clauses.proofs.Parts.{All-from, contains-tail, contains-cases, removed-cases, removed-contains}
 
 module _ {X : Type 0} where
   -- no element stands twice

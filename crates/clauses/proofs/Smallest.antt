@@ -4,11 +4,11 @@ use Rattle.std.proofs.Math.Decide.{ℕ_discrete}
 use Rattle.term.specs.Joins.{Symbol-discrete}
 use Rattle.term.specs.Words.{Word, size, sub, Word-discrete}
 use Rattle.term.proofs.Substitutions.{sub-sub, size-sub}
-use Rattle.clause.specs.Clauses.{Covers}
-use Rattle.clause.specs.Reduction.{Tidy}
-use Rattle.clause.proofs.Parts.{All-from, removed-cases}
-use Rattle.clause.proofs.Counts.{Apart, apart-from, ones, partners, onto-apart, pairs_apart, found}
-use Rattle.clause.proofs.Coverings.{takes, covers-part, covers-through}
+use Rattle.clauses.specs.Clauses.{Covers}
+use Rattle.clauses.specs.Reduction.{Tidy}
+use Rattle.clauses.proofs.Parts.{All-from, removed-cases}
+use Rattle.clauses.proofs.Counts.{Apart, apart-from, ones, partners, onto-apart, pairs_apart, found}
+use Rattle.clauses.proofs.Coverings.{takes, covers-part, covers-through}
 
 pub same-word : Discrete Word
 same-word = Word-discrete ℕ_discrete Symbol-discrete

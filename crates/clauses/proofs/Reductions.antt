@@ -5,10 +5,10 @@ use Rattle.std.proofs.lemmas.List.Elements.{All-contains_itself}
 use Rattle.std.proofs.lemmas.List.Edits.{length-remove}
 use Rattle.std.proofs.lemmas.List.Sums.{sum_by-remove}
 use Rattle.term.specs.Words.{Word, var}
-use Rattle.clause.specs.Clauses.{Covers}
-use Rattle.clause.specs.Reduction.{Tidy, Tidies, done, drops, keeps}
-use Rattle.clause.proofs.Parts.{All-remove, remove-remove}
-use Rattle.clause.proofs.Coverings.{covers-part, covers-itself, covers-through, removed-covers}
+use Rattle.clauses.specs.Clauses.{Covers}
+use Rattle.clauses.specs.Reduction.{Tidy, Tidies, done, drops, keeps}
+use Rattle.clauses.proofs.Parts.{All-remove, remove-remove}
+use Rattle.clauses.proofs.Coverings.{covers-part, covers-itself, covers-through, removed-covers}
 
 -- none of the first literals can be left out
 abbrev Needed : ℕ → List Word → Type 0

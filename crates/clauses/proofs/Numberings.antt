@@ -7,17 +7,17 @@ use Rattle.term.specs.Lawful.{Numbered, Narrow, Narrows}
 use Rattle.term.specs.Words.{Word, var, app, Words, nil, cons, size, sizes, vars, sub, subs}
 use Rattle.term.specs.declared.node.Symbol.{Symbol}
 use Rattle.term.proofs.Substitutions.{sub-var, len-subs}
-use Rattle.clause.specs.Clauses.{Literal, Covers}
-use Rattle.clause.specs.Reduction.{Tidy}
-use Rattle.clause.specs.Variants.{variables, renamed, Variant}
-use Rattle.clause.specs.Numbering.{rank, firsts, renumbered}
-use Rattle.clause.specs.Narrowness.{NarrowOver}
-use Rattle.clause.proofs.Parts.{removed-contains, contains-flat_map, flat_map-contains}
-use Rattle.clause.proofs.Firsts.{firsts-have, rank-apart, firsts-numbered, unchanged}
-use Rattle.clause.proofs.Coverings.{covers-through}
-use Rattle.clause.proofs.Literals.{literal-sub}
-use Rattle.clause.proofs.Renamings.{sub-same, variables-renamed}
-use Rattle.clause.proofs.Variations.{variant-down, variant-up}
+use Rattle.clauses.specs.Clauses.{Literal, Covers}
+use Rattle.clauses.specs.Reduction.{Tidy}
+use Rattle.clauses.specs.Variants.{variables, renamed, Variant}
+use Rattle.clauses.specs.Numbering.{rank, firsts, renumbered}
+use Rattle.clauses.specs.Narrowness.{NarrowOver}
+use Rattle.clauses.proofs.Parts.{removed-contains, contains-flat_map, flat_map-contains}
+use Rattle.clauses.proofs.Firsts.{firsts-have, rank-apart, firsts-numbered, unchanged}
+use Rattle.clauses.proofs.Coverings.{covers-through}
+use Rattle.clauses.proofs.Literals.{literal-sub}
+use Rattle.clauses.proofs.Renamings.{sub-same, variables-renamed}
+use Rattle.clauses.proofs.Variations.{variant-down, variant-up}
 
 -- a function keeps the variables of a clause apart
 abbrev KeepsApart : (ℕ → ℕ) → List Word → Type 0
