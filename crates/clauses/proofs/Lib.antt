@@ -1,1 +1,15 @@
 pub mod Beginnings
+pub mod Parts
+pub mod Counts
+pub mod Firsts
+pub mod Coverings
+pub mod Reductions
+pub mod Smallest
+pub mod Renamings
+pub mod Each
+pub mod Variations
+pub mod Literals
+pub mod Settled
+pub mod Generalisations
+pub mod Numberings
+pub mod Limits
