@@ -9,7 +9,7 @@ use Rattle.clauses.specs.Numbering.{renumbered}
 use Rattle.clauses.proofs.Coverings.{covers-through}
 use Rattle.clauses.proofs.Generalisations.{raw-left, raw-right, raw-least, raw-literals}
 use Rattle.clauses.proofs.Numberings.{renumbered-variant, renumbered-literals, length-renumbered, size-renumbered}
-use Rattle.clauses.proofs.Reductions.{tidies-tidy, tidies-down, tidies-up, All-tidies, length-tidies, sum_by-tidies}
+use Rattle.clauses.proofs.Reductions.{tidies-tidy, tidies-down, tidies-up, All-tidies, length-tidies, sum_by-tidies, some-tidies}
 use Rattle.clauses.proofs.Smallest.{tidy-fewest, tidy-smallest}
 use Rattle.clauses.proofs.Variations.{variant-down, variant-up}
 
@@ -58,3 +58,7 @@ module _ (C D : List Word) where
 -- tidying keeps the limit
 pub tidies-within : (C R : List Word) → Tidies 0 C R → Within C → Within R
 tidies-within C R t w = (le_trans (length-tidies t) w.0, le_trans (sum_by-tidies size t) w.1)
+
+-- where what tidying leaves of the join is beyond the limit, no least clause is within it
+pub none-within : (C D : List Word) → All Literal C → ((R : List Word) → Tidies 0 (raw C D) R → Within R → ⊥) → (E : List Word) → Within E → Least C D E → ⊥
+none-within C D h beyond E w e = some-tidies (raw C D) (λ R t. beyond R t ((tidied-within C D h R t).1 (E, w, e)))

@@ -1,6 +1,7 @@
 -- What tidying leaves is tidy, says the same, and is one clause.
-use Rattle.std.proofs.Common.{◌≡◌, ℕ, zero, suc, ◌+◌, ◌<◌, ◌≤◌, List, length, remove, All, Contains, sum_by, inl, inr, sym, refl, subst, arith}
+use Rattle.std.proofs.Common.{◌≡◌, ℕ, zero, suc, ◌+◌, ◌<◌, ◌≤◌, List, length, take, drop, remove, All, Contains, sum_by, inl, inr, sym, refl, ap, ◌∙◌, subst, arith}
 use Rattle.std.proofs.lemmas.Bool.{cases_lt}
+use Rattle.std.proofs.lemmas.List.{length-take-le, take-take, take_at}
 use Rattle.std.proofs.lemmas.List.Elements.{All-contains_itself}
 use Rattle.std.proofs.lemmas.List.Edits.{length-remove}
 use Rattle.std.proofs.lemmas.List.Sums.{sum_by-remove}
@@ -98,3 +99,37 @@ module _ (decided : (C D : List Word) → Dec (Covers C D)) where
 
   pub tidied : (C : List Word) → (R : List Word) × Tidies 0 C R
   tidied C = tidied-from (length C) 0 C (omega arith)
+
+-- nor can it be that nothing is left of some clause by tidying
+some-from : (left hand : ℕ) (C : List Word) → length C ≤ hand + left → ((R : List Word) → Tidies hand C R → ⊥) → ⊥
+some-from zero hand C h none = none C (done (omega arith))
+some-from (suc left) hand C h none = elim (cases_lt hand (length C)) [
+  | inr le ↦ none C (done le)
+  | inl lt ↦
+      let held : Covers C (remove C hand) → ⊥ = λ c. some-from left hand (remove C hand) (omega (arith, length-remove C hand lt)) (λ R t. none R (drops lt c t)) in
+      some-from left (hand + 1) C (omega arith) (λ R t. none R (keeps lt held t))
+]
+
+pub some-tidies : (C : List Word) → ((R : List Word) → Tidies 0 C R → ⊥) → ⊥
+some-tidies C none = some-from (length C) 0 C (omega arith) none
+
+-- one step of tidying, and what comes after it
+pub after-drop : {hand : ℕ} {C R : List Word} → Tidies hand C R → hand < length C → Covers C (remove C hand) → Tidies hand (remove C hand) R
+after-drop (done h) lt c = absurd (omega arith)
+after-drop (drops h d t) lt c = t
+after-drop (keeps h d t) lt c = absurd (d c)
+
+pub after-keep : {hand : ℕ} {C R : List Word} → Tidies hand C R → hand < length C → (Covers C (remove C hand) → ⊥) → Tidies (hand + 1) C R
+after-keep (done h) lt n = absurd (omega arith)
+after-keep (drops h d t) lt n = absurd (n d)
+after-keep (keeps h d t) lt n = t
+
+-- the literals before the one in hand are left
+take-remove : (C : List Word) (hand : ℕ) → hand < length C → take hand (remove C hand) ≡ take hand C
+take-remove C hand lt = take_at (take hand C) (drop (suc hand) C) hand (length-take-le hand C (omega arith))
+
+pub tidies-front : {hand : ℕ} {C R : List Word} → Tidies hand C R → hand ≤ length C → take hand R ≡ take hand C
+tidies-front (done h) le = refl
+tidies-front (drops {hand = hand} {C = C} h c t) le = tidies-front t (omega (arith, length-remove C hand h)) ∙ take-remove C hand h
+tidies-front (keeps {hand = hand} {C = C} {R = R} h c t) le =
+    sym (take-take hand (hand + 1) R (omega arith)) ∙ ap (take hand) (tidies-front t (omega arith)) ∙ take-take hand (hand + 1) C (omega arith)

@@ -23,7 +23,7 @@ use Rattle.record.specs.declared.fault.RecordFault.{RecordFault}
 use Rattle.record.specs.declared.fault.RecordFault.TheVariants.{Number, Literals, Left}
 use Rattle.record.specs.Records.{literals}
 use Rattle.record.specs.Reads.{read_literal, in_literal, read_literals, Builds, read_record, clause_form, Reads, Exactly}
-use Rattle.record.proofs.Held.{held}
+use Rattle.record.specs.Held.{held}
 use Rattle.record.proofs.Literals.{literal-added}
 use Rattle.clauses.proofs.Beginnings.{push-more}
 use Rattle.record.proofs.Back.{reads-back}

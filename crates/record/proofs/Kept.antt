@@ -11,7 +11,8 @@ use Rattle.record.specs.Clauses.{whole, clausal, distinct}
 use Rattle.clauses.specs.Beginnings.{begins}
 use Rattle.record.specs.Records.{literals}
 use Rattle.record.specs.Reads.{read_literal, Grows, Adds}
-use Rattle.record.proofs.Tests.{whole_from, whole_says, clausal-from, clausal-says, literals-push, order-push}
+use Rattle.record.proofs.Tests.{whole_from, clausal-from, literals-push, order-push}
+use Rattle.record.specs.Held.{whole_says, clausal-says}
 use Rattle.record.proofs.Places.{distinct_push}
 use Rattle.clauses.proofs.Beginnings.{begins-push}
 use Rattle.record.proofs.Literals.{literal-added}

@@ -1,6 +1,5 @@
 pub mod Tests
 pub mod Places
-pub mod Held
 pub mod Words
 pub mod Literals
 pub mod Grown

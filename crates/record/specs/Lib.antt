@@ -2,3 +2,5 @@ pub mod Faults
 pub mod Clauses
 pub mod Records
 pub mod Reads
+pub mod Held
+pub mod Kind

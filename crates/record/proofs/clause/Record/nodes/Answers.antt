@@ -1,5 +1,5 @@
 use Rattle.std.proofs.Common.{sym, ◌∙◌}
-use Rattle.record.proofs.Held.{nodes-of, held}
+use Rattle.record.specs.Held.{nodes-of, held}
 use Rattle.record.proofs.clause.Record.nodes.Goals as goal
 
 pub returns : goal.returns

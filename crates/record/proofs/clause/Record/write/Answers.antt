@@ -7,7 +7,7 @@ use Rattle.word.specs.Packed.{packed, Writable}
 use Rattle.number.specs.Writes.{Wrote}
 use Rattle.record.specs.Records.{literals}
 use Rattle.clauses.proofs.Beginnings.{length-begins}
-use Rattle.record.proofs.Held.{nodes-of, held}
+use Rattle.record.specs.Held.{nodes-of, held}
 use Rattle.record.proofs.Back.{clause-writable, reads-back}
 use Rattle.record.proofs.Forms.{no_room, both-wrote}
 use Rattle.record.proofs.clause.Record.write.Goals as goal
