@@ -1,0 +1,18 @@
+-- How far the tidying of a clause has come.
+use Rattle.std.specs.Prelude.{◌≡◌, ℕ, ◌<◌, ◌≤◌, List, ◌++◌, length, drop, slice_index_or, Contains}
+use Rattle.term.specs.Words.{Word}
+use Rattle.clauses.specs.Reduction.{Tidies}
+use Rattle.subsume.specs.Bits.{bit_at}
+
+-- w stands in C at a place that is not in the set
+abbrev pub Outside : (gone : List ℕ) → List Word → Word → Type 0
+Outside gone C w = (j : ℕ) × (j < length C) × (bit_at gone j ≡ 0) × (slice_index_or C j w ≡ w)
+
+-- the literals before i have had their turn; these of them are kept, and the others are gone
+pub record Progress (C : List Word) (i : ℕ) (kept : List Word) (gone : List ℕ) : Type 0 where
+  pub within : i ≤ length C
+  pub forth : (R : List Word) → Tidies (length kept) (kept ++ drop i C) R → Tidies 0 C R
+  pub back : (R : List Word) → Tidies 0 C R → Tidies (length kept) (kept ++ drop i C) R
+  pub early : (j : ℕ) (d : Word) → j < i → bit_at gone j ≡ 0 → Contains kept (slice_index_or C j d)
+  pub stays : (w : Word) → Contains kept w → (j : ℕ) × (j < i) × (bit_at gone j ≡ 0) × (slice_index_or C j w ≡ w)
+  pub late : (j : ℕ) → i ≤ j → bit_at gone j ≡ 0
