@@ -1,3 +1,4 @@
+mod Places
 mod Sets
 mod Pruning
 mod Abreast

@@ -1,4 +1,5 @@
 pub mod Bits
 pub mod Choices
 pub mod Meeting
+pub mod Records
 pub mod Solving

@@ -6,6 +6,7 @@ mod check;
 mod link;
 mod meeting;
 mod prune;
+mod records;
 mod search;
 mod slot;
 mod state;
