@@ -8,12 +8,12 @@ use super::view::View;
 use record::Record;
 
 // A record's literals, all of them.
-pub(super) fn view(record: &Record) -> View<'_>
-    ensures nodes { result.nodes.now ≡ codes (literals record.now) }
-    ensures starts { result.starts.now ≡ begins 0 (literals record.now) }
+pub(super) fn view(clause: &Record) -> View<'_>
+    ensures nodes { result.nodes.now ≡ codes (literals clause.now) }
+    ensures starts { result.starts.now ≡ begins 0 (literals clause.now) }
 {
     View {
-        nodes: record.nodes(),
-        starts: record.starts(),
+        nodes: clause.nodes(),
+        starts: clause.starts(),
     }
 }

@@ -8,7 +8,7 @@ use Rattle.subsume.proofs.records.view.Goals as goal
 
 pub invariant_of-result : goal.invariant_of-result
 invariant_of-result c =
-    let ls = literals c.args.record.now in
+    let ls = literals c.args.clause.now in
     let nodes = c.nodes.result.now in
     let same = c.nodes.ensures.value in
     let inside = subst (Inside (length nodes)) (sym c.starts.ensures) (inside-begins 0 (length nodes) ls (omega (arith, ap length same, length-codes ls))) in
