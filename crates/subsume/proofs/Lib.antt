@@ -1,3 +1,4 @@
+mod Covered
 mod Places
 mod Sets
 mod Pruning

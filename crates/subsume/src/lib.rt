@@ -3,6 +3,7 @@
 
 mod bits;
 mod check;
+mod covering;
 mod link;
 mod meeting;
 mod prune;
