@@ -1,5 +1,5 @@
 -- A choice that works is what covering asks for.
-use Rattle.std.proofs.Common.{◌≡◌, ℕ, ◌<◌, Bool, true, false, List, length, get_or, Contains, Decides, sym, ap, ◌∙◌, refl, ⊎_elim, map, arith}
+use Rattle.std.proofs.Common.{◌≡◌, ℕ, ◌<◌, Bool, true, false, List, length, get_or, Contains, Decides, sym, ap, ◌∙◌, refl, ⊎_elim, arith}
 use Rattle.std.proofs.lemmas.List.{get_or-map, get_or_default, length-map}
 use Rattle.std.proofs.lemmas.List.Elements.{All-map}
 use Rattle.std.proofs.lemmas.Bool.{cases_lt}
@@ -8,7 +8,7 @@ use Rattle.term.specs.Words.{Word, var, sub}
 use Rattle.term.specs.declared.node.Node.{Node}
 use Rattle.clause.specs.Clauses.{Covers, literals_at}
 use Rattle.subsume.specs.declared.bits.BitSet.{BitSet}
-use Rattle.subsume.specs.Solving.{TurnsAt, Works, Solved, Hopeful, Spared}
+use Rattle.subsume.specs.Solving.{TurnsAt, Solved, Hopeful, Spared}
 
 module _ (N : List Node) (S : List ℕ) (M : List Node) (T : List ℕ) where
   pub solved-covers : Solved N S M T → Covers (literals_at N S) (literals_at M T)
@@ -17,10 +17,10 @@ module _ (N : List Node) (S : List ℕ) (M : List Node) (T : List ℕ) where
       let θ = s.2.0 in (
         θ,
         All-map (λ l. Contains (literals_at M T) (sub θ l)) (word_at N) S (λ i d h.
-        let at : get_or S i 0 ≡ get_or S i d = get_or_default S i 0 d h in
-        let l : Word = sub θ (word_at N (get_or S i d)) in
-        let here : get_or (literals_at M T) (f i) l ≡ l = get_or-map (word_at M) T (f i) 0 l (s.1 i h) ∙ sym (s.2.1 i h) ∙ ap (λ (p : ℕ). sub θ (word_at N p)) at in
-        (f i, omega (arith, length-map T (word_at M), s.1 i h), here)),
+            let at : get_or S i 0 ≡ get_or S i d = get_or_default S i 0 d h in
+            let l : Word = sub θ (word_at N (get_or S i d)) in
+            let here : get_or (literals_at M T) (f i) l ≡ l = get_or-map (word_at M) T (f i) 0 l (s.1 i h) ∙ sym (s.2.1 i h) ∙ ap (λ (p : ℕ). sub θ (word_at N p)) at in
+            (f i, omega (arith, length-map T (word_at M), s.1 i h), here)),
       )
 
   -- the target of each literal
@@ -49,7 +49,7 @@ module _ (N : List Node) (S : List ℕ) (M : List Node) (T : List ℕ) where
   searched-decides sets r spared found none = (
     λ e. solved-covers (found e),
     λ c. let s = covers-solved c in elim (r) as (λ b. (b ≡ false → Hopeful N S M T sets → ⊥) → b ≡ true) [
-        | true ↦ λ _. refl
-        | false ↦ λ n. absurd (n refl (s.0, spared s.0 s.1 s.2, s.2))
+      | true ↦ λ _. refl
+      | false ↦ λ n. absurd (n refl (s.0, spared s.0 s.1 s.2, s.2))
     ] none,
   )

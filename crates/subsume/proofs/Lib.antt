@@ -1,5 +1,5 @@
 mod Covered
-mod Places
+mod Clausal
 mod Sets
 mod Pruning
 mod Abreast

@@ -13,3 +13,5 @@ mod slot;
 mod state;
 mod table;
 mod view;
+
+pub use records::covers;
