@@ -7,3 +7,5 @@ mod Checked
 mod Picking
 mod Searching
 mod Links
+mod Occurring
+mod Noting

@@ -3,3 +3,4 @@ pub mod Choices
 pub mod Meeting
 pub mod Records
 pub mod Solving
+pub mod Witness

@@ -13,5 +13,6 @@ mod slot;
 mod state;
 mod table;
 mod view;
+mod witness;
 
 pub use records::covers;

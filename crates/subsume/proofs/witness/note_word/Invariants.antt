@@ -1,0 +1,10 @@
+use Rattle.std.proofs.Common.{drop}
+use Rattle.term.specs.Coding.{word_at}
+use Rattle.subsume.specs.Witness.{met, noted}
+use Rattle.subsume.proofs.Noting.{Beside}
+use Rattle.subsume.proofs.witness.note_word.Given as goal
+
+abbrev pub invariant-loop-node : goal.invariant-loop-node
+invariant-loop-node l =
+    Beside (drop l.node-index l.node-items) l.b.nodes.now l.q l.seen l.list
+    (noted (met (word_at l.a.nodes.now l.a.start) (word_at l.b.nodes.now l.b.start) l.b.start) l.initial.seen l.initial.list)

@@ -1,0 +1,82 @@
+// A witness of covering: for each variable of a rule, the place in a record where it is met.
+ghost use Rattle.std.specs.Prelude.{◌≡◌, ℕ, ◌<◌, ◌≤◌, [], ◌∷◌, length, Some, codes};
+ghost use Rattle.term.specs.Coding.{word_at};
+ghost use Rattle.term.specs.Matched.{Below, Turns};
+ghost use Rattle.term.specs.Words.{Word};
+ghost use Rattle.record.specs.Clauses.{variables};
+ghost use Rattle.record.specs.Records.{literals};
+ghost use Rattle.subsume.specs.Witness.{met, noted, too_few_entries};
+
+use record::Record;
+use std::error::Error;
+use std::fmt;
+use term::{Node, WordAt};
+
+// The list has not an entry for each variable of the rule.
+#[derive(Clone, Copy, PartialEq, Debug)]
+pub struct TooFewEntries;
+
+impl TooFewEntries {
+    // The number of the refusal.
+    pub fn question(&self) -> u8
+        ensures { result ≡ too_few_entries }
+    {
+        12
+    }
+}
+
+// What is wrong, in words.
+impl fmt::Display for TooFewEntries {
+    ghost output = { λ _. Some (codes "the list has not an entry for each variable of the rule") };
+
+    fn fmt<W: fmt::Write>(&self, f: &mut fmt::Formatter<W>) -> fmt::Result {
+        f.write_str("the list has not an entry for each variable of the rule")
+    }
+}
+
+impl Error for TooFewEntries {}
+
+// How many variables a record has: they are numbered from 0.
+fn count_variables(rule: &Record) -> usize
+    ensures { result ≡ variables (literals rule.now) }
+{
+    let mut count = 0;
+    for node in rule.nodes() {
+        if let Node::Variable(x) = *node {
+            count = count.max(x as usize + 1);
+        }
+    }
+    count
+}
+
+// Notes that the variable `x` is met at `q`, if it is the next one; answers how many variables have been noted.
+fn note(x: u16, q: usize, seen: usize, list: &mut [u16]) -> usize
+    requires { (x < length list.old) × (q < 65536) }
+    ensures { noted ((x, q) ∷ []) seen list.old ≡ (result, list.new) }
+{
+    if x as usize != seen {
+        return seen;
+    }
+    list[seen] = q as u16;
+    seen + 1
+}
+
+// Notes where the variables of the word `a` are met in the word `b`, which a substitution makes of it.
+fn note_word(a: WordAt<'_>, b: WordAt<'_>, mut seen: usize, list: &mut [u16]) -> usize
+    requires turned { (θ : ℕ → Word) × Turns a.nodes.now a.start b.nodes.now b.start θ }
+    requires room { Below (length list.old) a.nodes.now }
+    requires small { length b.nodes.now ≤ 65536 }
+    ensures { noted (met (word_at a.entry.nodes.now a.entry.start) (word_at b.entry.nodes.now b.entry.start) b.entry.start) seen list.old ≡ (result, list.new) }
+{
+    let mut q = b.start;
+    for node in &a.nodes[a.start..a.end()] {
+        match *node {
+            Node::Variable(x) => {
+                seen = note(x, q, seen, list);
+                q = b.at(q).end();
+            }
+            Node::Applied(_, _) => q += 1,
+        }
+    }
+    seen
+}
