@@ -9,3 +9,4 @@ mod Searching
 mod Links
 mod Occurring
 mod Noting
+mod Choosing

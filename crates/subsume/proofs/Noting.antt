@@ -1,6 +1,6 @@
 -- Two words side by side, of which a substitution makes the one from the other: where variables are met.
 use Rattle.std.proofs.Common.{◌≡◌, ℕ, suc, ◌+◌, ◌<◌, ◌≤◌, true, false, eqb, cond, List, [], ◌∷◌, ◌++◌, length, get_or, set, drop, sym, refl, ap, ◌∙◌, append_assoc, append-nil, add-zero, arith, length-append}
-use Rattle.std.proofs.lemmas.List.{append_cancel_left, drop_more, drop-drop, length-drop}
+use Rattle.std.proofs.lemmas.List.{append_cancel_left, drop_more, drop_all, drop-drop, length-drop}
 use Rattle.term.specs.Coding.{code, codes, hd, tl, decode, Whole, words_at, word_at, Next}
 use Rattle.term.specs.Words.{Word, var, app, Words, nil, cons, ◌+++◌, len, size, sizes, sub, subs}
 use Rattle.term.specs.declared.node.Node.{Node}
@@ -8,7 +8,9 @@ use Rattle.term.specs.declared.node.Node.TheVariants.{Variable, Applied}
 use Rattle.term.specs.declared.node.Symbol.{Symbol}
 use Rattle.term.proofs.Codings.{codes-more, decode-code, code-decode, whole_drop, len-at, word-nodes, length-code}
 use Rattle.term.proofs.Substitutions.{size-pos}
-use Rattle.subsume.specs.Witness.{met, mets, noted}
+use Rattle.clause.specs.Clauses.{each}
+use Rattle.record.specs.Clauses.{begins}
+use Rattle.subsume.specs.Witness.{met, mets, meetings, noted}
 
 -- pairs after others
 pub noted-more : (ps qs : List (ℕ × ℕ)) (seen : ℕ) (list : List ℕ) → noted (ps ++ qs) seen list ≡ noted qs (noted ps seen list).0 (noted ps seen list).1
@@ -139,3 +141,22 @@ module _ (items : List Node) (k : ℕ) (h : k < length items) (b : List Node) (q
                 ap (λ (ps : List (ℕ × ℕ)). noted ps seen list) (mets-more g.θ ws us (q + 1) ∙ ap (λ (n : ℕ). mets ws (subs g.θ ws) (q + 1) ++ mets us (subs g.θ us) n) z)
                 ∙ notes;
           }
+
+-- one literal of a rule on
+pub noted-on : (rule : List Word) (mount : Words) (choice : List ℕ) (i : ℕ) → i < length rule → i < length choice → (u w : Word) (at : ℕ)
+    → get_or rule i (var 0) ≡ u → get_or (each mount) (get_or choice i 0) (var 0) ≡ w → get_or (begins 0 mount) (get_or choice i 0) 0 ≡ at
+    → (seen : ℕ) (list : List ℕ) (seen' : ℕ) (list' : List ℕ) → noted (met u w at) seen list ≡ (seen', list')
+    → noted (meetings (drop (i + 1) rule) mount (drop (i + 1) choice)) seen' list' ≡ noted (meetings (drop i rule) mount (drop i choice)) seen list
+noted-on rule mount choice i h k u w at e f g seen list seen' list' made =
+    let rest = meetings (drop (i + 1) rule) mount (drop (i + 1) choice) in
+    sym (
+    rw (drop_more rule i (var 0) h, drop_more choice i 0 k, e, f, g)
+    (noted-more (met u w at) rest seen list ∙ ap (λ (r : ℕ × List ℕ). noted rest r.0 r.1) made)
+    )
+
+pub noted-all : (rule : List Word) (mount : Words) (choice : List ℕ) (i : ℕ) → length choice ≤ i → (seen : ℕ) (list : List ℕ) → noted (meetings (drop i rule) mount (drop i choice)) seen list ≡ (seen, list)
+noted-all rule mount choice i h seen list = rw (drop_all i choice h) (ap (λ (ps : List (ℕ × ℕ)). noted ps seen list) (none (drop i rule)))
+  where
+    none : (ls : List Word) → meetings ls mount [] ≡ []
+    none [] = refl
+    none (l ∷ ls) = refl

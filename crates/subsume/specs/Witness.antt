@@ -5,9 +5,9 @@ use Rattle.term.specs.Words.{Word, var, app, Words, nil, cons, size, sub}
 use Rattle.clause.specs.Clauses.{each}
 use Rattle.record.specs.Clauses.{variables, begins}
 
--- one substitution turns each literal of the rule into the literal of the target that is chosen for it
-abbrev pub Chooses : (rule target : List Word) → (choice : List ℕ) → Type 0
-Chooses rule target choice = (θ : ℕ → Word) × AllZip (λ l j. slice_get target j ≡ Some (sub θ l)) rule choice
+-- one substitution turns each literal of the rule into the literal of the mount that is chosen for it
+abbrev pub Chooses : (rule mount : List Word) → (choice : List ℕ) → Type 0
+Chooses rule mount choice = (θ : ℕ → Word) × AllZip (λ l j. slice_get mount j ≡ Some (sub θ l)) rule choice
 
 -- dictionary order
 abbrev pub NoLater : List ℕ → List ℕ → Type 0
@@ -16,8 +16,8 @@ NoLater (j ∷ js) [] = ⊥
 NoLater (j ∷ js) (k ∷ ks) = (j < k) ⊎ ((j ≡ k) × NoLater js ks)
 
 -- the first choice that works
-abbrev pub FirstChoice : (rule target : List Word) → (choice : List ℕ) → Type 0
-FirstChoice rule target choice = Chooses rule target choice × ((other : List ℕ) → Chooses rule target other → NoLater choice other)
+abbrev pub FirstChoice : (rule mount : List Word) → (choice : List ℕ) → Type 0
+FirstChoice rule mount choice = Chooses rule mount choice × ((other : List ℕ) → Chooses rule mount other → NoLater choice other)
 
 -- where the variables of a word are met in a word whose nodes begin at `at`, in written order: each with the node there
 abbrev mutual
@@ -31,9 +31,9 @@ abbrev mutual
   mets (cons u us) nil at = []
   mets (cons u us) (cons w ws) at = met u w at ++ mets us ws (at + size w)
 
--- the same of a rule's literals, each in the literal of the target that is chosen for it
-abbrev pub meetings : (rule : List Word) → (target : Words) → (choice : List ℕ) → List (ℕ × ℕ)
-meetings rule target choice = flat_map (λ p. met p.0 (slice_index_or (each target) p.1 (var 0)) (slice_index (begins 0 target) p.1)) (zip rule choice)
+-- the same of a rule's literals, each in the literal of the mount that is chosen for it
+abbrev pub meetings : (rule : List Word) → (mount : Words) → (choice : List ℕ) → List (ℕ × ℕ)
+meetings rule mount choice = flat_map (λ p. met p.0 (slice_index_or (each mount) p.1 (var 0)) (slice_index (begins 0 mount) p.1)) (zip rule choice)
 
 -- the node of each pair whose variable is the next one comes into the list, where `seen` variables did before: how many then
 -- have, and the list
@@ -41,12 +41,12 @@ abbrev pub noted : List (ℕ × ℕ) → (seen : ℕ) → List ℕ → ℕ × Li
 noted [] seen list = (seen, list)
 noted (p ∷ ps) seen list = cond (p.0 == seen) (noted ps (seen + 1) (slice_set list seen p.1)) (noted ps seen list)
 
--- for each variable of the rule, under the first choice, the node of the target that meets the variable where it first stands
-abbrev pub Witness : (rule target : Words) → (list : List ℕ) → Type 0
-Witness rule target list =
-    (choice : List ℕ) × FirstChoice (each rule) (each target) choice
+-- for each variable of the rule, under the first choice, the node of the mount that meets the variable where it first stands
+abbrev pub Witness : (rule mount : Words) → (list : List ℕ) → Type 0
+Witness rule mount list =
+    (choice : List ℕ) × FirstChoice (each rule) (each mount) choice
     × (length list ≡ variables rule)
-    × ((x : ℕ) → x < variables rule → find (λ p. p.0 == x) (meetings (each rule) target choice) ≡ Some (x, slice_index list x))
+    × ((x : ℕ) → x < variables rule → find (λ p. p.0 == x) (meetings (each rule) mount choice) ≡ Some (x, slice_index list x))
 
 -- the number of the refusal: has the list an entry for each variable of the rule?
 abbrev pub too_few_entries : ℕ

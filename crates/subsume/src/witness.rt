@@ -5,8 +5,10 @@ ghost use Rattle.term.specs.Matched.{Below, Turns};
 ghost use Rattle.term.specs.Words.{Word};
 ghost use Rattle.record.specs.Clauses.{variables};
 ghost use Rattle.record.specs.Records.{literals};
-ghost use Rattle.subsume.specs.Witness.{met, noted, too_few_entries};
+ghost use Rattle.subsume.specs.Records.{clause};
+ghost use Rattle.subsume.specs.Witness.{Chooses, met, meetings, noted, too_few_entries};
 
+use super::records::view;
 use record::Record;
 use std::error::Error;
 use std::fmt;
@@ -79,4 +81,18 @@ fn note_word(a: WordAt<'_>, b: WordAt<'_>, mut seen: usize, list: &mut [u16]) ->
         }
     }
     seen
+}
+
+// Notes where the variables of the rule are met, by the literals of the mount that are chosen for its literals.
+fn note_all(rule: &Record, mount: &Record, choice: &[u16], list: &mut [u16])
+    requires chosen { Chooses (clause rule.now) (clause mount.now) choice.now }
+    requires room { variables (literals rule.now) ≤ length list.old }
+    ensures { (noted (meetings (clause rule.now) (literals mount.now) choice.now) 0 list.old).1 ≡ list.new }
+{
+    let a = view(rule);
+    let b = view(mount);
+    let mut seen = 0;
+    for (i, j) in choice.iter().enumerate() {
+        seen = note_word(a.literal(i), b.literal(*j as usize), seen, list);
+    }
 }
