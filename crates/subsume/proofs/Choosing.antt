@@ -1,5 +1,5 @@
 -- Choices as lists, and as functions.
-use Rattle.std.proofs.Common.{◌≡◌, ℕ, zero, suc, ◌<◌, List, [], ◌∷◌, length, get_or, Some, sym, ap, ◌∙◌, arith}
+use Rattle.std.proofs.Common.{◌≡◌, ℕ, zero, suc, ◌<◌, Bool, List, [], ◌∷◌, length, get_or, Some, Decides, sym, ap, ◌∙◌, subst, arith}
 use Rattle.std.specs.List.{slice_get, AllZip}
 use Rattle.std.proofs.lemmas.List.{get_or-map, length-map}
 use Rattle.std.proofs.lemmas.Option.{slice_get-get_or, slice_get_within, get_or_from_slice_get}
@@ -8,7 +8,7 @@ use Rattle.term.specs.Coding.{word_at}
 use Rattle.term.specs.Words.{Word, var, sub}
 use Rattle.term.specs.declared.node.Node.{Node}
 use Rattle.clause.specs.Clauses.{literals_at}
-use Rattle.subsume.specs.Solving.{Works}
+use Rattle.subsume.specs.Solving.{TurnsAt, Works}
 use Rattle.subsume.specs.Witness.{Chooses}
 
 -- what holds of the elements of two lists, place by place
@@ -57,3 +57,11 @@ module _ (N : List Node) (S : List ℕ) (M : List Node) (T : List ℕ) (js : Lis
             slice_get-get_or (literals_at M T) (get_or js i 0) (var 0) (omega (arith, w.inside i k, length-map T (word_at M)))
             ∙ ap Some (get_or-map (word_at M) T (get_or js i 0) 0 (var 0) (w.inside i k) ∙ sym (w.works.1 i k) ∙ ap (sub θ) (sym (get_or-map (word_at N) S i 0 (var 0) k)))),
       )
+
+  -- a choice as a function
+  pub works-decides : (f : ℕ → ℕ) (r : Bool) → length js ≡ length S → ((i : ℕ) → i < length S → get_or js i 0 < length T) → ((i : ℕ) → i < length S → f i ≡ get_or js i 0) → Decides r (Works N S M T f)
+      → Decides r (Chooses (literals_at N S) (literals_at M T) js)
+  works-decides f r long inside same d = (
+    λ e. let w = d.0 e in working-chooses (record { long = long; inside = inside; works = (w.0, λ i h. subst (TurnsAt N S M T w.0 i) (same i h) (w.1 i h)) }),
+    λ c. let w = (chooses-working c).works in d.1 (w.0, λ i h. subst (TurnsAt N S M T w.0 i) (sym (same i h)) (w.1 i h)),
+  )

@@ -10,3 +10,4 @@ mod Links
 mod Occurring
 mod Noting
 mod Choosing
+mod Firsts

@@ -1,9 +1,12 @@
 -- Witnesses of covering: which literals a rule's literals become, and where its variables are met.
-use Rattle.std.specs.Prelude.{◌≡◌, ℕ, ◌+◌, ◌<◌, cond, List, [], ◌∷◌, ◌++◌, length, slice_get, slice_set, slice_index, slice_index_or, Some, ◌==◌, ◌⊎◌}
+use Rattle.std.specs.Prelude.{◌≡◌, ℕ, ◌+◌, ◌<◌, ◌≤◌, cond, List, [], ◌∷◌, ◌++◌, length, take, slice_get, slice_set, slice_index, slice_index_or, Some, Option, ◌==◌, ◌⊎◌, All}
 use Rattle.std.specs.List.{AllZip, find, zip, flat_map}
 use Rattle.term.specs.Words.{Word, var, app, Words, nil, cons, size, sub}
-use Rattle.clause.specs.Clauses.{each}
+use Rattle.term.specs.declared.node.Node.{Node}
+use Rattle.clause.specs.Clauses.{each, literals_at}
 use Rattle.record.specs.Clauses.{variables, begins}
+use Rattle.subsume.specs.declared.bits.BitSet.{BitSet}
+use Rattle.subsume.specs.Choices.{Among, Picked}
 
 -- one substitution turns each literal of the rule into the literal of the mount that is chosen for it
 abbrev pub Chooses : (rule mount : List Word) → (choice : List ℕ) → Type 0
@@ -18,6 +21,25 @@ NoLater (j ∷ js) (k ∷ ks) = (j < k) ⊎ ((j ≡ k) × NoLater js ks)
 -- the first choice that works
 abbrev pub FirstChoice : (rule mount : List Word) → (choice : List ℕ) → Type 0
 FirstChoice rule mount choice = Chooses rule mount choice × ((other : List ℕ) → Chooses rule mount other → NoLater choice other)
+
+-- the choice begins with these
+abbrev pub Begins : (front choice : List ℕ) → Type 0
+Begins front choice = take (length front) choice ≡ front
+
+-- of the choices that work and begin with these there is none; or this one is the first
+abbrev pub NoneFrom : (rule mount : List Word) → (front : List ℕ) → Type 0
+NoneFrom rule mount front = (choice : List ℕ) → Chooses rule mount choice → Begins front choice → ⊥
+
+abbrev pub FirstFrom : (rule mount : List Word) → (front choice : List ℕ) → Type 0
+FirstFrom rule mount front choice =
+    Chooses rule mount choice × Begins front choice × ((other : List ℕ) → Chooses rule mount other → Begins front other → NoLater choice other)
+
+-- the choices for the first literals are these, and each choice that works and begins with them is left
+pub record Begun (N : List Node) (S : List ℕ) (M : List Node) (T : List ℕ) (front : List ℕ) (sets : List (BitSet 4)) (picks : List (Option ℕ)) : Type 0 where
+  pub few : length front ≤ length S
+  pub inside : All (λ j. j < length T) front
+  pub left : (choice : List ℕ) → Chooses (literals_at N S) (literals_at M T) choice → Begins front choice → Among sets (length S) (length T) (slice_index choice)
+  pub picked : Picked sets (length S) (length T) picks
 
 -- where the variables of a word are met in a word whose nodes begin at `at`, in written order: each with the node there
 abbrev mutual

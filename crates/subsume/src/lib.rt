@@ -3,6 +3,7 @@
 
 mod bits;
 mod check;
+mod choice;
 mod covering;
 mod link;
 mod meeting;

@@ -94,7 +94,7 @@ impl<const N: usize, const K: usize> Table<'_, N, K> {
     }
 
     // What is left once literal `i` takes the target `j`.
-    fn take(&self, state: &State<N>, i: usize, j: usize) -> State<N>
+    pub fn take(&self, state: &State<N>, i: usize, j: usize) -> State<N>
         requires literal { i < length self.now.literals.starts.now }
         requires target { j < length self.now.targets.starts.now }
         ensures taken { Taken (elems self.now.slots) (length self.now.literals.starts.now) (length self.now.targets.starts.now) state.now.sets i j result.sets }
