@@ -1,18 +1,23 @@
 -- The first choice in dictionary order: what is left, and what was passed over.
-use Rattle.std.proofs.Common.{◌≡◌, ℕ, zero, suc, ◌+◌, ◌<◌, ◌≤◌, List, [], ◌∷◌, ◌++◌, length, get_or, take, Option, sym, refl, ap, ◌∙◌, subst, inl, inr, ⊎_elim, arith}
+use Rattle.std.proofs.Common.{◌≡◌, ℕ, zero, suc, ◌+◌, ◌<◌, ◌≤◌, List, [], ◌∷◌, ◌++◌, map, length, get_or, take, Some, None, Option, MatchOption, sym, refl, ap, ◌∙◌, subst, inl, inr, ⊎_elim, arith}
+use Rattle.std.specs.List.{range_with_len}
 use Rattle.std.proofs.lemmas.Bool.{cases_eq}
 use Rattle.std.proofs.lemmas.List.{get_or-take, get_or_push, length_push, take_all, take_at, take-take, take_more}
-use Rattle.std.proofs.lemmas.List.Elements.{All-push}
+use Rattle.std.proofs.lemmas.List.Elements.{All-nil, All-push}
+use Rattle.std.proofs.lemmas.List.FromFn.{length-map-range_with_len, get_or-map-range_with_len}
+use Rattle.bounded.specs.Elems.{elems}
+use Rattle.bounded.specs.declared.list.Bounded.{Bounded}
 use Rattle.term.specs.declared.node.Node.{Node}
-use Rattle.clause.specs.Clauses.{literals_at}
+use Rattle.clause.specs.Clauses.{Covers, literals_at}
 use Rattle.subsume.specs.declared.bits.BitSet.{BitSet}
 use Rattle.subsume.specs.declared.slot.Slot.{Slot}
 use Rattle.subsume.specs.Bits.{bit_at}
 use Rattle.subsume.specs.Choices.{left, slot_at, Among, Fits, Taken, Picked}
 use Rattle.subsume.specs.Meeting.{label_of}
-use Rattle.subsume.specs.Solving.{Works, Linked, Hopeful}
-use Rattle.subsume.specs.Witness.{Chooses, NoLater, Begins, NoneFrom, FirstFrom, Begun}
-use Rattle.subsume.proofs.Choosing.{chooses-working}
+use Rattle.subsume.specs.Solving.{TurnsAt, Works, Linked, Hopeful, Spared}
+use Rattle.subsume.specs.Witness.{Chooses, NoLater, FirstChoice, Begins, NoneFrom, FirstFrom, Begun}
+use Rattle.subsume.proofs.Choosing.{chooses-working, working-chooses}
+use Rattle.subsume.proofs.Covered.{covers-solved}
 
 -- dictionary order
 pub no_later-itself : (js : List ℕ) → NoLater js js
@@ -136,3 +141,32 @@ module _ (N : List Node) (S : List ℕ) (M : List Node) (T : List ℕ) where
   -- the search found nothing
   pub none_searched : (longer : List ℕ) (sets : List (BitSet 4)) (picks : List (Option ℕ)) → Begun N S M T longer sets picks → (Hopeful N S M T sets → ⊥) → NoneFrom (literals_at N S) (literals_at M T) longer
   none_searched longer sets picks g n other c b = n ((λ i. get_or other i 0), g.left other c b, (chooses-working N S M T other c).works)
+
+  -- at the beginning no choice is made
+  pub begun-none : (front : List ℕ) (sets : List (BitSet 4)) (picks : List (Option ℕ)) → Spared N S M T sets → Picked sets (length S) (length T) picks → front ≡ [] → Begun N S M T front sets picks
+  begun-none front sets picks spared p is = rw is record {
+    few = omega arith;
+    inside = All-nil (λ j. j < length T);
+    left = λ js c b. let w = chooses-working N S M T js c in spared (λ i. get_or js i 0) w.inside w.works;
+    picked = p;
+  }
+
+  covers-chooses : Covers (literals_at N S) (literals_at M T) → (js : List ℕ) × Chooses (literals_at N S) (literals_at M T) js
+  covers-chooses c =
+      let s = covers-solved N S M T c in
+      let js = map s.0 (range_with_len 0 (length S)) in
+      let at : (i : ℕ) → i < length S → s.0 i ≡ get_or js i 0 = λ i h. sym (get_or-map-range_with_len s.0 0 (length S) i i 0 h (omega arith)) in (
+        js,
+        working-chooses N S M T js (record {
+          long = length-map-range_with_len s.0 0 (length S);
+          inside = λ i h. subst (λ (j : ℕ). j < length T) (at i h) (s.1 i h);
+          works = (s.2.0, λ i h. subst (TurnsAt N S M T s.2.0 i) (at i h) (s.2.1 i h));
+        }),
+      )
+
+  -- the first of all choices
+  pub first-of_all : {C : ℕ} (front : List ℕ) (answer : Option (Bounded ℕ C)) → front ≡ []
+      → MatchOption answer (NoneFrom (literals_at N S) (literals_at M T) front) (λ first. FirstFrom (literals_at N S) (literals_at M T) front (elems first))
+      → MatchOption answer (Covers (literals_at N S) (literals_at M T) → ⊥) (λ first. FirstChoice (literals_at N S) (literals_at M T) (elems first))
+  first-of_all front None is none = λ c. let k = covers-chooses c in none k.0 k.1 (rw is refl)
+  first-of_all front (Some first) is f = (f.0, λ other c. f.2 other c (rw is refl))

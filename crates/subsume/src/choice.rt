@@ -2,13 +2,16 @@
 ghost use Rattle.std.specs.Prelude.{◌≡◌, ◌-◌, ◌<◌, ◌≤◌, false, [], ◌∷◌, ◌++◌, length, All, Decides, MatchOption};
 ghost use Rattle.bounded.specs.Elems.{elems};
 ghost use Rattle.term.specs.Matched.{Below};
-ghost use Rattle.clause.specs.Clauses.{literals_at};
-ghost use Rattle.subsume.specs.Witness.{Chooses, NoneFrom, FirstFrom, Begun};
+ghost use Rattle.clause.specs.Clauses.{Covers, literals_at};
+ghost use Rattle.subsume.specs.Records.{clause};
+ghost use Rattle.subsume.specs.Witness.{Chooses, FirstChoice, NoneFrom, FirstFrom, Begun};
 
 use super::check::check;
+use super::records::{LITERALS, SLOTS, VARIABLES, view};
 use super::state::State;
 use super::table::Table;
 use bounded::Bounded;
+use record::Record;
 
 impl<const N: usize, const K: usize> Table<'_, N, K> {
     // Whether a choice works.
@@ -83,4 +86,13 @@ impl<const N: usize, const K: usize> Table<'_, N, K> {
         }
         None
     }
+}
+
+// The first choice, in dictionary order, of a literal of the mount for each literal of the rule; none where the rule does
+// not cover the mount.
+pub fn first_choice(rule: &Record, mount: &Record) -> Option<Bounded<u16, LITERALS>>
+    ensures { MatchOption result (Covers (clause rule.now) (clause mount.now) → ⊥) (λ choice. FirstChoice (clause rule.now) (clause mount.now) (elems choice)) }
+{
+    let table = Table::<LITERALS, SLOTS>::link(view(rule), view(mount));
+    table.first_from::<VARIABLES>(table.start(), Bounded::new(0))
 }

@@ -10,11 +10,11 @@ use super::view::View;
 use record::Record;
 
 // How many literals a record may have; how many slots help the search; and how many variables a record may have.
-const LITERALS: usize = 16;
+pub(super) const LITERALS: usize = 16;
 
-const SLOTS: usize = 128;
+pub(super) const SLOTS: usize = 128;
 
-const VARIABLES: usize = 256;
+pub(super) const VARIABLES: usize = 256;
 
 // A record's literals, all of them.
 pub(super) fn view(clause: &Record) -> View<'_>
