@@ -9,5 +9,6 @@ mod Searching
 mod Links
 mod Occurring
 mod Noting
+mod Noted
 mod Choosing
 mod Firsts

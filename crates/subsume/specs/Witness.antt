@@ -1,11 +1,12 @@
 -- Witnesses of covering: which literals a rule's literals become, and where its variables are met.
-use Rattle.std.specs.Prelude.{◌≡◌, ℕ, ◌+◌, ◌<◌, ◌≤◌, cond, List, [], ◌∷◌, ◌++◌, length, take, slice_get, slice_set, slice_index, slice_index_or, Some, Option, ◌==◌, ◌⊎◌, All}
+use Rattle.std.specs.Prelude.{◌≡◌, ℕ, ◌+◌, ◌<◌, ◌≤◌, cond, List, [], ◌∷◌, ◌++◌, length, take, drop, slice_get, slice_set, slice_index, slice_index_or, Some, None, Option, Ok, Err, Result, ◌==◌, ◌⊎◌, All}
 use Rattle.std.specs.List.{AllZip, find, zip, flat_map}
 use Rattle.term.specs.Words.{Word, var, app, Words, nil, cons, size, sub}
 use Rattle.term.specs.declared.node.Node.{Node}
-use Rattle.clause.specs.Clauses.{each, literals_at}
+use Rattle.clause.specs.Clauses.{Covers, each, literals_at}
 use Rattle.record.specs.Clauses.{variables, begins}
 use Rattle.subsume.specs.declared.bits.BitSet.{BitSet}
+use Rattle.subsume.specs.declared.witnesses.TooFewEntries.{TooFewEntries}
 use Rattle.subsume.specs.Choices.{Among, Picked}
 
 -- one substitution turns each literal of the rule into the literal of the mount that is chosen for it
@@ -69,6 +70,13 @@ Witness rule mount list =
     (choice : List ℕ) × FirstChoice (each rule) (each mount) choice
     × (length list ≡ variables rule)
     × ((x : ℕ) → x < variables rule → find (λ p. p.0 == x) (meetings (each rule) mount choice) ≡ Some (x, slice_index list x))
+
+-- an answer of `witness`, and what the list then holds: refused, where it has not an entry for each variable; none, where the
+-- rule does not cover the mount; or the count of variables, whose entries come first and are a witness
+abbrev pub Witnessed : (rule mount : Words) → (before : List ℕ) → Result (Option ℕ) TooFewEntries → (after : List ℕ) → Type 0
+Witnessed rule mount before (Err _) after = (length before < variables rule) × (after ≡ before)
+Witnessed rule mount before (Ok None) after = (variables rule ≤ length before) × ¬ Covers (each rule) (each mount) × (after ≡ before)
+Witnessed rule mount before (Ok (Some n)) after = (n ≡ variables rule) × Witness rule mount (take n after) × (drop n after ≡ drop n before) × (length after ≡ length before)
 
 -- the number of the refusal: has the list an entry for each variable of the rule?
 abbrev pub too_few_entries : ℕ

@@ -14,6 +14,8 @@ mod slot;
 mod state;
 mod table;
 mod view;
-mod witness;
+mod witnesses;
 
+pub use choice::first_choice;
 pub use records::covers;
+pub use witnesses::{TooFewEntries, witness};

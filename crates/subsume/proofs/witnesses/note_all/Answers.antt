@@ -16,7 +16,7 @@ use Rattle.subsume.proofs.Choosing.{Working, chooses-working}
 use Rattle.subsume.proofs.Noting.{noted-on, noted-all}
 use Rattle.subsume.proofs.Occurring.{occurring, occurring-all, below-stood}
 use Rattle.term.specs.Words.{Word, var, varss}
-use Rattle.subsume.proofs.witness.note_all.Goals as goal
+use Rattle.subsume.proofs.witnesses.note_all.Goals as goal
 
 -- a choice for two records, by their nodes
 seen : (rule mount : Record) (a b : View) (choice : List ℕ) → a.nodes.now ≡ codes (literals rule) → a.starts.now ≡ begins 0 (literals rule) → b.nodes.now ≡ codes (literals mount) → b.starts.now ≡ begins 0 (literals mount)

@@ -4,8 +4,8 @@ use Rattle.term.specs.declared.node.Node.TheVariants.{Variable}
 use Rattle.term.proofs.Codings.{word-between}
 use Rattle.term.proofs.Matchings.{below_at}
 use Rattle.subsume.proofs.Noting.{beside-first, beside-last, beside-inside, beside-variable, beside-symbol}
-use Rattle.subsume.proofs.witness.note_word.Goals as goal
-use Rattle.subsume.proofs.witness.note_word.Goals.{in-Variable, in-Applied}
+use Rattle.subsume.proofs.witnesses.note_word.Goals as goal
+use Rattle.subsume.proofs.witnesses.note_word.Goals.{in-Variable, in-Applied}
 
 pub loop-node-init : goal.loop-node-init
 loop-node-init c =

@@ -2,7 +2,7 @@ use Rattle.std.proofs.Common.{drop}
 use Rattle.term.specs.Coding.{word_at}
 use Rattle.subsume.specs.Witness.{met, noted}
 use Rattle.subsume.proofs.Noting.{Beside}
-use Rattle.subsume.proofs.witness.note_word.Given as goal
+use Rattle.subsume.proofs.witnesses.note_word.Given as goal
 
 abbrev pub invariant-loop-node : goal.invariant-loop-node
 invariant-loop-node l =

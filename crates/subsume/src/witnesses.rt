@@ -6,8 +6,9 @@ ghost use Rattle.term.specs.Words.{Word};
 ghost use Rattle.record.specs.Clauses.{variables};
 ghost use Rattle.record.specs.Records.{literals};
 ghost use Rattle.subsume.specs.Records.{clause};
-ghost use Rattle.subsume.specs.Witness.{Chooses, met, meetings, noted, too_few_entries};
+ghost use Rattle.subsume.specs.Witness.{Chooses, met, meetings, noted, Witnessed, too_few_entries};
 
+use super::choice::first_choice;
 use super::records::view;
 use record::Record;
 use std::error::Error;
@@ -95,4 +96,25 @@ fn note_all(rule: &Record, mount: &Record, choice: &[u16], list: &mut [u16])
     for (i, j) in choice.iter().enumerate() {
         seen = note_word(a.literal(i), b.literal(*j as usize), seen, list);
     }
+}
+
+// Writes for each variable of the rule the place, among the nodes of the mount in written order, of the word that meets the
+// variable where it first stands, under the first choice of literals that works; answers how many variables there are, or
+// none where the rule does not cover the mount. A list without an entry for each variable is refused before the search.
+pub fn witness(
+    rule: &Record,
+    mount: &Record,
+    list: &mut [u16],
+) -> Result<Option<usize>, TooFewEntries>
+    ensures { Witnessed (literals rule.now) (literals mount.now) list.old result list.new }
+{
+    let count = count_variables(rule);
+    if list.len() < count {
+        return Err(TooFewEntries);
+    }
+    let Some(choice) = first_choice(rule, mount) else {
+        return Ok(None);
+    };
+    note_all(rule, mount, choice.as_slice(), list);
+    Ok(Some(count))
 }

@@ -4,7 +4,7 @@ use Rattle.term.specs.Lawful.{stood}
 use Rattle.term.specs.declared.node.Node.{Node}
 use Rattle.record.specs.Records.{literals}
 use Rattle.subsume.proofs.Occurring.{occurring, occurring-all}
-use Rattle.subsume.proofs.witness.count_variables.Goals as goal
+use Rattle.subsume.proofs.witnesses.count_variables.Goals as goal
 
 pub returns : goal.returns
 returns c =
