@@ -1,7 +1,8 @@
 -- The first choice in dictionary order: what is left, and what was passed over.
-use Rattle.std.proofs.Common.{◌≡◌, ℕ, zero, suc, ◌+◌, ◌<◌, ◌≤◌, List, [], ◌∷◌, ◌++◌, map, length, get_or, take, Some, None, Option, MatchOption, sym, refl, ap, ◌∙◌, subst, inl, inr, ⊎_elim, arith}
+use Rattle.std.proofs.Common.{◌≡◌, ℕ, zero, suc, ◌+◌, ◌<◌, ◌≤◌, Bool, true, false, List, [], ◌∷◌, ◌++◌, map, length, get_or, take, Some, None, Option, MatchOption, Decides, sym, refl, ap, ◌∙◌, subst, inl, inr, ⊎_elim, arith}
 use Rattle.std.specs.List.{range_with_len}
-use Rattle.std.proofs.lemmas.Bool.{cases_eq}
+use Rattle.std.specs.Bool.{then_some}
+use Rattle.std.proofs.lemmas.Bool.{cases_eq, false≢true}
 use Rattle.std.proofs.lemmas.List.{get_or-take, get_or_push, length_push, take_all, take_at, take-take, take_more}
 use Rattle.std.proofs.lemmas.List.Elements.{All-nil, All-push}
 use Rattle.std.proofs.lemmas.List.FromFn.{length-map-range_with_len, get_or-map-range_with_len}
@@ -15,7 +16,8 @@ use Rattle.subsume.specs.Bits.{bit_at}
 use Rattle.subsume.specs.Choices.{left, slot_at, Among, Fits, Taken, Picked}
 use Rattle.subsume.specs.Meeting.{label_of}
 use Rattle.subsume.specs.Solving.{TurnsAt, Works, Linked, Hopeful, Spared}
-use Rattle.subsume.specs.Witness.{Chooses, NoLater, FirstChoice, Begins, NoneFrom, FirstFrom, Begun}
+use Rattle.subsume.specs.Steps.{Begins, NoneFrom, FirstFrom, Begun}
+use Rattle.subsume.specs.Witness.{Chooses, NoLater, FirstChoice}
 use Rattle.subsume.proofs.Choosing.{chooses-working, working-chooses}
 use Rattle.subsume.proofs.Covered.{covers-solved}
 
@@ -89,8 +91,8 @@ module _ (N : List Node) (S : List ℕ) (M : List Node) (T : List ℕ) where
   }
 
   -- every choice of target was made
-  pub first_whole : (front : List ℕ) → Chooses (literals_at N S) (literals_at M T) front → FirstFrom (literals_at N S) (literals_at M T) front front
-  first_whole front c = (
+  works-first : (front : List ℕ) → Chooses (literals_at N S) (literals_at M T) front → FirstFrom (literals_at N S) (literals_at M T) front front
+  works-first front c = (
     c,
     take_all (length front) front (omega arith),
     λ other d b.
@@ -98,8 +100,14 @@ module _ (N : List Node) (S : List ℕ) (M : List Node) (T : List ℕ) where
         subst (NoLater front) (sym (begins-all front other b (omega (arith, long, (chooses-working N S M T other d).long)))) (no_later-itself front),
   )
 
-  pub none_whole : (front : List ℕ) → length front ≡ length S → (Chooses (literals_at N S) (literals_at M T) front → ⊥) → NoneFrom (literals_at N S) (literals_at M T) front
-  none_whole front long n other c b = n (subst (Chooses (literals_at N S) (literals_at M T)) (begins-all front other b (omega (arith, long, (chooses-working N S M T other c).long))) c)
+  fails-none : (front : List ℕ) → length front ≡ length S → (Chooses (literals_at N S) (literals_at M T) front → ⊥) → NoneFrom (literals_at N S) (literals_at M T) front
+  fails-none front long n other c b = n (subst (Chooses (literals_at N S) (literals_at M T)) (begins-all front other b (omega (arith, long, (chooses-working N S M T other c).long))) c)
+
+  pub first_whole : {C : ℕ} (choice : Bounded ℕ C) (works : Bool) → length (elems choice) ≡ length S → Decides works (Chooses (literals_at N S) (literals_at M T) (elems choice))
+      → (answer : Option (Bounded ℕ C)) → answer ≡ then_some works choice
+      → MatchOption answer (NoneFrom (literals_at N S) (literals_at M T) (elems choice)) (λ first. FirstFrom (literals_at N S) (literals_at M T) (elems choice) (elems first))
+  first_whole choice true long d answer is = rw is (works-first (elems choice) (d.0 refl))
+  first_whole choice false long d answer is = rw is (fails-none (elems choice) long (λ c. false≢true (d.1 c)))
 
   -- no choice that works and begins so goes on with a target before j
   abbrev pub Passed : (front : List ℕ) (j : ℕ) → Type 0

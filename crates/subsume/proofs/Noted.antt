@@ -8,7 +8,8 @@ use Rattle.term.specs.Lawful.{Numbered, stood}
 use Rattle.term.specs.Words.{Word, var, app, Words, nil, cons, size, vars, varss, sub, subs}
 use Rattle.clause.specs.Clauses.{each}
 use Rattle.record.specs.Clauses.{variables, begins}
-use Rattle.subsume.specs.Witness.{Chooses, FirstChoice, met, mets, meetings, noted, Witness}
+use Rattle.subsume.specs.Steps.{noted}
+use Rattle.subsume.specs.Witness.{Chooses, FirstChoice, met, mets, meetings, Witness}
 use Rattle.subsume.proofs.Occurring.{le-stood}
 
 -- the variables that are met

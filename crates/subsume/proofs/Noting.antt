@@ -10,7 +10,8 @@ use Rattle.term.proofs.Codings.{codes-more, decode-code, code-decode, whole_drop
 use Rattle.term.proofs.Substitutions.{size-pos}
 use Rattle.clause.specs.Clauses.{each}
 use Rattle.record.specs.Clauses.{begins}
-use Rattle.subsume.specs.Witness.{met, mets, meetings, noted}
+use Rattle.subsume.specs.Steps.{noted}
+use Rattle.subsume.specs.Witness.{met, mets, meetings}
 
 -- pairs after others
 pub noted-more : (ps qs : List (ℕ × ℕ)) (seen : ℕ) (list : List ℕ) → noted (ps ++ qs) seen list ≡ noted qs (noted ps seen list).0 (noted ps seen list).1

@@ -3,4 +3,5 @@ pub mod Choices
 pub mod Meeting
 pub mod Records
 pub mod Solving
+pub mod Steps
 pub mod Witness

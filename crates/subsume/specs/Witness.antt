@@ -1,19 +1,16 @@
 -- Witnesses of covering: which literals a rule's literals become, and where its variables are met.
-use Rattle.std.specs.Prelude.{◌≡◌, ℕ, ◌+◌, ◌<◌, ◌≤◌, cond, List, [], ◌∷◌, ◌++◌, length, take, drop, slice_get, slice_set, slice_index, slice_index_or, Some, None, Option, Ok, Err, Result, ◌==◌, ◌⊎◌, All}
+use Rattle.std.specs.Prelude.{◌≡◌, ℕ, ◌+◌, ◌<◌, ◌≤◌, List, [], ◌∷◌, ◌++◌, length, take, drop, slice_get, slice_index, slice_index_or, Some, None, Option, Ok, Err, Result, ◌==◌, ◌⊎◌}
 use Rattle.std.specs.List.{AllZip, find, zip, flat_map}
 use Rattle.term.specs.Words.{Word, var, app, Words, nil, cons, size, sub}
-use Rattle.term.specs.declared.node.Node.{Node}
-use Rattle.clause.specs.Clauses.{Covers, each, literals_at}
+use Rattle.clause.specs.Clauses.{Covers, each}
 use Rattle.record.specs.Clauses.{variables, begins}
-use Rattle.subsume.specs.declared.bits.BitSet.{BitSet}
 use Rattle.subsume.specs.declared.witnesses.TooFewEntries.{TooFewEntries}
-use Rattle.subsume.specs.Choices.{Among, Picked}
 
--- one substitution turns each literal of the rule into the literal of the mount that is chosen for it
+-- for each literal of the rule the place of a literal of the mount: one substitution turns each into the one that is chosen
 abbrev pub Chooses : (rule mount : List Word) → (choice : List ℕ) → Type 0
 Chooses rule mount choice = (θ : ℕ → Word) × AllZip (λ l j. slice_get mount j ≡ Some (sub θ l)) rule choice
 
--- dictionary order
+-- the one list is no later than the other in dictionary order
 abbrev pub NoLater : List ℕ → List ℕ → Type 0
 NoLater [] ks = Unit {0}
 NoLater (j ∷ js) [] = ⊥
@@ -22,25 +19,6 @@ NoLater (j ∷ js) (k ∷ ks) = (j < k) ⊎ ((j ≡ k) × NoLater js ks)
 -- the first choice that works
 abbrev pub FirstChoice : (rule mount : List Word) → (choice : List ℕ) → Type 0
 FirstChoice rule mount choice = Chooses rule mount choice × ((other : List ℕ) → Chooses rule mount other → NoLater choice other)
-
--- the choice begins with these
-abbrev pub Begins : (front choice : List ℕ) → Type 0
-Begins front choice = take (length front) choice ≡ front
-
--- of the choices that work and begin with these there is none; or this one is the first
-abbrev pub NoneFrom : (rule mount : List Word) → (front : List ℕ) → Type 0
-NoneFrom rule mount front = (choice : List ℕ) → Chooses rule mount choice → Begins front choice → ⊥
-
-abbrev pub FirstFrom : (rule mount : List Word) → (front choice : List ℕ) → Type 0
-FirstFrom rule mount front choice =
-    Chooses rule mount choice × Begins front choice × ((other : List ℕ) → Chooses rule mount other → Begins front other → NoLater choice other)
-
--- the choices for the first literals are these, and each choice that works and begins with them is left
-pub record Begun (N : List Node) (S : List ℕ) (M : List Node) (T : List ℕ) (front : List ℕ) (sets : List (BitSet 4)) (picks : List (Option ℕ)) : Type 0 where
-  pub few : length front ≤ length S
-  pub inside : All (λ j. j < length T) front
-  pub left : (choice : List ℕ) → Chooses (literals_at N S) (literals_at M T) choice → Begins front choice → Among sets (length S) (length T) (slice_index choice)
-  pub picked : Picked sets (length S) (length T) picks
 
 -- where the variables of a word are met in a word whose nodes begin at `at`, in written order: each with the node there
 abbrev mutual
@@ -57,12 +35,6 @@ abbrev mutual
 -- the same of a rule's literals, each in the literal of the mount that is chosen for it
 abbrev pub meetings : (rule : List Word) → (mount : Words) → (choice : List ℕ) → List (ℕ × ℕ)
 meetings rule mount choice = flat_map (λ p. met p.0 (slice_index_or (each mount) p.1 (var 0)) (slice_index (begins 0 mount) p.1)) (zip rule choice)
-
--- the node of each pair whose variable is the next one comes into the list, where `seen` variables did before: how many then
--- have, and the list
-abbrev pub noted : List (ℕ × ℕ) → (seen : ℕ) → List ℕ → ℕ × List ℕ
-noted [] seen list = (seen, list)
-noted (p ∷ ps) seen list = cond (p.0 == seen) (noted ps (seen + 1) (slice_set list seen p.1)) (noted ps seen list)
 
 -- for each variable of the rule, under the first choice, the node of the mount that meets the variable where it first stands
 abbrev pub Witness : (rule mount : Words) → (list : List ℕ) → Type 0

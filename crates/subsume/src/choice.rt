@@ -4,10 +4,11 @@ ghost use Rattle.bounded.specs.Elems.{elems};
 ghost use Rattle.term.specs.Matched.{Below};
 ghost use Rattle.clause.specs.Clauses.{Covers, literals_at};
 ghost use Rattle.subsume.specs.Records.{clause};
-ghost use Rattle.subsume.specs.Witness.{Chooses, FirstChoice, NoneFrom, FirstFrom, Begun};
+ghost use Rattle.subsume.specs.Steps.{NoneFrom, FirstFrom, Begun};
+ghost use Rattle.subsume.specs.Witness.{Chooses, FirstChoice};
 
 use super::check::check;
-use super::records::{LITERALS, SLOTS, VARIABLES, view};
+use super::records::{LITERALS, SLOTS, VARIABLES, covers, view};
 use super::state::State;
 use super::table::Table;
 use bounded::Bounded;
@@ -70,11 +71,7 @@ impl<const N: usize, const K: usize> Table<'_, N, K> {
         ensures { let rule = literals_at self.now.literals.nodes.now self.now.literals.starts.now in let mount = literals_at self.now.targets.nodes.now self.now.targets.starts.now in MatchOption result (NoneFrom rule mount (elems choice.entry)) (λ first. FirstFrom rule mount (elems choice.entry) (elems first)) }
     {
         if choice.len() == self.literals.len() {
-            return if self.works::<V>(choice.as_slice()) {
-                Some(choice)
-            } else {
-                None
-            };
+            return self.works::<V>(choice.as_slice()).then_some(choice);
         }
         for j in 0..self.targets.len() {
             if self.may_take::<V>(&state, &choice, j) {
@@ -93,6 +90,10 @@ impl<const N: usize, const K: usize> Table<'_, N, K> {
 pub fn first_choice(rule: &Record, mount: &Record) -> Option<Bounded<u16, LITERALS>>
     ensures { MatchOption result (Covers (clause rule.now) (clause mount.now) → ⊥) (λ choice. FirstChoice (clause rule.now) (clause mount.now) (elems choice)) }
 {
+    // One search decides what would else take one for each target of the first literal.
+    if !covers(rule, mount) {
+        return None;
+    }
     let table = Table::<LITERALS, SLOTS>::link(view(rule), view(mount));
     table.first_from::<VARIABLES>(table.start(), Bounded::new(0))
 }

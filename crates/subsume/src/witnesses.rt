@@ -6,7 +6,8 @@ ghost use Rattle.term.specs.Words.{Word};
 ghost use Rattle.record.specs.Clauses.{variables};
 ghost use Rattle.record.specs.Records.{literals};
 ghost use Rattle.subsume.specs.Records.{clause};
-ghost use Rattle.subsume.specs.Witness.{Chooses, met, meetings, noted, Witnessed, too_few_entries};
+ghost use Rattle.subsume.specs.Steps.{noted};
+ghost use Rattle.subsume.specs.Witness.{Chooses, met, meetings, Witnessed, too_few_entries};
 
 use super::choice::first_choice;
 use super::records::view;

@@ -1,7 +1,8 @@
 use Rattle.std.proofs.Common.{◌≡◌, drop}
 use Rattle.record.specs.Records.{literals}
 use Rattle.subsume.specs.Records.{clause}
-use Rattle.subsume.specs.Witness.{meetings, noted}
+use Rattle.subsume.specs.Steps.{noted}
+use Rattle.subsume.specs.Witness.{meetings}
 use Rattle.subsume.proofs.witnesses.note_all.Given as goal
 
 abbrev pub invariant-loop-i : goal.invariant-loop-i

@@ -1,6 +1,7 @@
 use Rattle.std.proofs.Common.{drop}
 use Rattle.term.specs.Coding.{word_at}
-use Rattle.subsume.specs.Witness.{met, noted}
+use Rattle.subsume.specs.Steps.{noted}
+use Rattle.subsume.specs.Witness.{met}
 use Rattle.subsume.proofs.Noting.{Beside}
 use Rattle.subsume.proofs.witnesses.note_word.Given as goal
 

@@ -1,21 +1,13 @@
 use Rattle.std.proofs.Common.{arith}
-use Rattle.std.proofs.lemmas.Bool.{both_ways}
 use Rattle.bounded.specs.Elems.{elems}
-use Rattle.subsume.proofs.Firsts.{first_whole, none_whole, passed-more, first-found}
+use Rattle.subsume.proofs.Firsts.{first_whole, passed-more, first-found}
 use Rattle.subsume.proofs.table.Table.+first_from.Goals as goal
 use Rattle.subsume.proofs.table.Table.+first_from.Goals.{then-may_take+in_default, else-may_take}
 
-pub returns-then-works : goal.returns-then-works
-returns-then-works g t c =
+pub returns-then-len : goal.returns-then-len
+returns-then-len g t c =
     let z = c.args.self.now in
-    let works = rw c.as_slice.ensures.value at c.works.ensures in
-    first_whole z.literals.nodes.now z.literals.starts.now z.targets.nodes.now z.targets.starts.now (elems c.args.choice) (works.0 c.if-works.true)
-
-pub returns-else-works : goal.returns-else-works
-returns-else-works g t c =
-    let z = c.args.self.now in
-    let works = rw c.as_slice.ensures.value at c.works.ensures in
-    none_whole z.literals.nodes.now z.literals.starts.now z.targets.nodes.now z.targets.starts.now (elems c.args.choice) (omega arith) (λ h. both_ways _ c.if-works.false (works.1 h))
+    first_whole z.literals.nodes.now z.literals.starts.now z.targets.nodes.now z.targets.starts.now c.args.choice c.works.result (omega arith) (rw c.as_slice.ensures.value at c.works.ensures) c.then_some.result c.then_some.ensures
 
 pub returns-in-Some : goal.returns-in-Some
 returns-in-Some g t c =
