@@ -7,7 +7,7 @@ use Rattle.std.proofs.lemmas.Slice.Zip.{AllZip-long}
 use Rattle.term.specs.Coding.{word_at}
 use Rattle.term.specs.Words.{Word, var, sub}
 use Rattle.term.specs.declared.node.Node.{Node}
-use Rattle.clause.specs.Clauses.{literals_at}
+use Rattle.clauses.specs.Clauses.{literals_at}
 use Rattle.subsume.specs.Solving.{TurnsAt, Works}
 use Rattle.subsume.specs.Witness.{Chooses}
 

@@ -9,7 +9,7 @@ use Rattle.std.proofs.lemmas.List.FromFn.{length-map-range_with_len, get_or-map-
 use Rattle.bounded.specs.Elems.{elems}
 use Rattle.bounded.specs.declared.list.Bounded.{Bounded}
 use Rattle.term.specs.declared.node.Node.{Node}
-use Rattle.clause.specs.Clauses.{Covers, literals_at}
+use Rattle.clauses.specs.Clauses.{Covers, literals_at}
 use Rattle.subsume.specs.declared.bits.BitSet.{BitSet}
 use Rattle.subsume.specs.declared.slot.Slot.{Slot}
 use Rattle.subsume.specs.Bits.{bit_at}

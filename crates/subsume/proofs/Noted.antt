@@ -6,8 +6,9 @@ use Rattle.std.proofs.lemmas.List.{map-append, length-take-le, get_or-take, drop
 use Rattle.std.proofs.lemmas.Option.{get_or_from_slice_get}
 use Rattle.term.specs.Lawful.{Numbered, stood}
 use Rattle.term.specs.Words.{Word, var, app, Words, nil, cons, size, vars, varss, sub, subs}
-use Rattle.clause.specs.Clauses.{each}
-use Rattle.record.specs.Clauses.{variables, begins}
+use Rattle.clauses.specs.Clauses.{each}
+use Rattle.record.specs.Clauses.{variables}
+use Rattle.clauses.specs.Beginnings.{begins}
 use Rattle.subsume.specs.Steps.{noted}
 use Rattle.subsume.specs.Witness.{Chooses, FirstChoice, met, mets, meetings, Witness}
 use Rattle.subsume.proofs.Occurring.{le-stood}

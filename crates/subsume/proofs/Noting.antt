@@ -8,7 +8,7 @@ use Rattle.term.specs.declared.node.Node.TheVariants.{Variable, Applied}
 use Rattle.term.specs.declared.node.Symbol.{Symbol}
 use Rattle.term.proofs.Codings.{codes-more, decode-code, code-decode, whole_drop, len-at, word-nodes, length-code}
 use Rattle.term.proofs.Substitutions.{size-pos}
-use Rattle.clause.specs.Clauses.{each}
+use Rattle.clauses.specs.Clauses.{each}
 use Rattle.record.specs.Clauses.{begins}
 use Rattle.subsume.specs.Steps.{noted}
 use Rattle.subsume.specs.Witness.{met, mets, meetings}

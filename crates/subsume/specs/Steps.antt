@@ -2,7 +2,7 @@
 use Rattle.std.specs.Prelude.{◌≡◌, ℕ, ◌+◌, ◌<◌, ◌≤◌, cond, List, [], ◌∷◌, length, take, slice_set, slice_index, Option, ◌==◌, All}
 use Rattle.term.specs.Words.{Word}
 use Rattle.term.specs.declared.node.Node.{Node}
-use Rattle.clause.specs.Clauses.{literals_at}
+use Rattle.clauses.specs.Clauses.{literals_at}
 use Rattle.subsume.specs.declared.bits.BitSet.{BitSet}
 use Rattle.subsume.specs.Choices.{Among, Picked}
 use Rattle.subsume.specs.Witness.{Chooses, NoLater}

@@ -2,8 +2,9 @@
 use Rattle.std.specs.Prelude.{◌≡◌, ℕ, ◌+◌, ◌<◌, ◌≤◌, List, [], ◌∷◌, ◌++◌, length, take, drop, slice_get, slice_index, slice_index_or, Some, None, Option, Ok, Err, Result, ◌==◌, ◌⊎◌}
 use Rattle.std.specs.List.{AllZip, find, zip, flat_map}
 use Rattle.term.specs.Words.{Word, var, app, Words, nil, cons, size, sub}
-use Rattle.clause.specs.Clauses.{Covers, each}
-use Rattle.record.specs.Clauses.{variables, begins}
+use Rattle.clauses.specs.Clauses.{Covers, each}
+use Rattle.record.specs.Clauses.{variables}
+use Rattle.clauses.specs.Beginnings.{begins}
 use Rattle.subsume.specs.declared.witnesses.TooFewEntries.{TooFewEntries}
 
 -- for each literal of the rule the place of a literal of the mount: one substitution turns each into the one that is chosen

@@ -2,7 +2,7 @@
 ghost use Rattle.std.specs.Prelude.{◌≡◌, ◌-◌, ◌<◌, ◌≤◌, false, [], ◌∷◌, ◌++◌, length, All, Decides, MatchOption};
 ghost use Rattle.bounded.specs.Elems.{elems};
 ghost use Rattle.term.specs.Matched.{Below};
-ghost use Rattle.clause.specs.Clauses.{Covers, literals_at};
+ghost use Rattle.clauses.specs.Clauses.{Covers, literals_at};
 ghost use Rattle.subsume.specs.Records.{clause};
 ghost use Rattle.subsume.specs.Steps.{NoneFrom, FirstFrom, Begun};
 ghost use Rattle.subsume.specs.Witness.{Chooses, FirstChoice};
