@@ -35,3 +35,7 @@ module _ (N : List Node) (S : List ℕ) (M : List Node) (T : List ℕ) where
   -- some choice works whose targets are left
   abbrev pub Hopeful : List (BitSet 4) → Type 0
   Hopeful sets = (f : ℕ → ℕ) × Among sets (length S) (length T) f × Works f
+
+  -- every choice that works is left
+  abbrev pub Spared : List (BitSet 4) → Type 0
+  Spared sets = (f : ℕ → ℕ) → ((i : ℕ) → i < length S → f i < length T) → Works f → Among sets (length S) (length T) f

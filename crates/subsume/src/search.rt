@@ -3,7 +3,7 @@ ghost use Rattle.std.specs.Prelude.{◌≡◌, ◌<◌, ◌≤◌, true, false, 
 ghost use Rattle.bounded.specs.Elems.{elems};
 ghost use Rattle.term.specs.Matched.{Below};
 ghost use Rattle.subsume.specs.Choices.{Settled, Narrowed, Taken, Chosen, Picked, pick, undone};
-ghost use Rattle.subsume.specs.Solving.{Solved, Hopeful};
+ghost use Rattle.subsume.specs.Solving.{Solved, Hopeful, Spared};
 
 use super::bits::BitSet;
 use super::check::check;
@@ -30,6 +30,23 @@ fn settled(left: &BitSet<4>, n: usize) -> Option<usize>
 }
 
 impl<const N: usize, const K: usize> Table<'_, N, K> {
+    // Where the search begins: pruned from every literal on, and no choice is made.
+    pub fn start(&self) -> State<N>
+        ensures picked { Picked result.sets (length self.now.literals.starts.now) (length self.now.targets.starts.now) result.picks }
+        ensures spared { Spared self.now.literals.nodes.now self.now.literals.starts.now self.now.targets.nodes.now self.now.targets.starts.now result.sets }
+    {
+        let mut sets = self.candidates();
+        let mut queue = BitSet::<4>::new();
+        for i in 0..self.literals.len() {
+            queue.include(i);
+        }
+        self.prune(&mut sets, queue);
+        State {
+            sets,
+            picks: [None; N],
+        }
+    }
+
     // Makes the choices for which one target is left.
     fn settle(&self, state: &mut State<N>)
         requires { Picked state.old.sets (length self.now.literals.starts.now) (length self.now.targets.starts.now) state.old.picks }
@@ -77,7 +94,7 @@ impl<const N: usize, const K: usize> Table<'_, N, K> {
     }
 
     // What is left once literal `i` takes the target `j`.
-    fn take(&self, state: &State<N>, i: usize, j: usize) -> State<N>
+    pub fn take(&self, state: &State<N>, i: usize, j: usize) -> State<N>
         requires literal { i < length self.now.literals.starts.now }
         requires target { j < length self.now.targets.starts.now }
         ensures taken { Taken (elems self.now.slots) (length self.now.literals.starts.now) (length self.now.targets.starts.now) state.now.sets i j result.sets }

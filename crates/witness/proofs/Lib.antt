@@ -1,0 +1,3 @@
+mod Occurring
+mod Noting
+mod Noted
