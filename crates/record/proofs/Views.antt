@@ -8,7 +8,7 @@ use Rattle.term.specs.declared.node.Node.{Node}
 use Rattle.term.specs.declared.node.Node.TheVariants.{Variable, Applied}
 use Rattle.term.proofs.Laws.{numbered-parts, stood-more}
 use Rattle.clauses.specs.Clauses.{literals_at, each}
-use Rattle.record.specs.Clauses.{Clause}
+use Rattle.record.specs.Clauses.{variables, Clause}
 use Rattle.clauses.specs.Beginnings.{begins}
 use Rattle.record.specs.Reads.{words_from}
 use Rattle.record.proofs.Places.{from_all}
@@ -48,3 +48,6 @@ mutual
 
 pub clause-below : (ls : Words) → Clause ls → Below 256 (codes ls)
 clause-below ls c = let small = c.small in (words-below ls 0 256 c.order (omega arith)).0
+
+pub few-variables : (ls : Words) → Clause ls → variables ls ≤ 256
+few-variables ls c = let small = c.small in omega (arith, (words-below ls 0 256 c.order (omega arith)).1)
