@@ -11,3 +11,5 @@ mod slot;
 mod state;
 mod table;
 mod view;
+
+pub use view::View;
