@@ -1,10 +1,11 @@
 -- Two literals fit where their first nodes are the same symbol, and then one literal is added.
-use Rattle.std.proofs.Common.{◌≡◌, ℕ, ◌+◌, ◌-◌, List, [], ◌∷◌, ◌++◌, length, drop, sym, ap, ◌∙◌, arith, length-append}
-use Rattle.std.proofs.lemmas.List.{length-drop, append-nil}
+use Rattle.std.proofs.Common.{◌≡◌, ℕ, ◌-◌, List, [], ◌∷◌, ◌++◌, length, sym, ap, ◌∙◌, arith}
+use Rattle.std.proofs.lemmas.List.{append-nil}
+use Rattle.std.proofs.lemmas.List.Edits.{length-between}
 use Rattle.bounded.specs.Elems.{elems}
 use Rattle.clauses.specs.Clauses.{each}
 use Rattle.clauses.specs.Joins.{Fit, fit_decided, row}
-use Rattle.term.specs.Coding.{code, hd, decode, Whole, word_at, Next}
+use Rattle.term.specs.Coding.{hd, decode, Whole, word_at, Next}
 use Rattle.term.specs.Joined.{mean, Inside, Fellows, Joined}
 use Rattle.term.specs.Joins.{Table, join}
 use Rattle.term.specs.Words.{Word, size}
@@ -13,7 +14,7 @@ use Rattle.term.specs.declared.node.Node.{Node}
 use Rattle.term.specs.declared.node.Node.TheVariants.{Variable, Applied}
 use Rattle.term.specs.declared.walk.WordAt.{WordAt}
 use Rattle.term.proofs.Cases.{test-yes, test-no}
-use Rattle.term.proofs.Codings.{len-first, word-nodes, length-code}
+use Rattle.term.proofs.Codings.{len-first, word-between, length-code}
 use Rattle.term.proofs.Walked.{root, root-words, root-whole}
 use Rattle.joining.specs.declared.raw.RawClause.{RawClause}
 use Rattle.joining.specs.Raw.{literals, Added}
@@ -32,16 +33,11 @@ nodes-fit (Applied f k) (Variable y) r s v w h = absurd h
 nodes-fit (Applied f k) (Applied g l) r s v w h = (h.0, sym (len-first k (decode r) v.0) ∙ h.1 ∙ len-first l (decode s) w.0)
 
 -- a word has the nodes up to where it ends
-ended : (w : WordAt) (p : ℕ) → Next w.nodes.now w.start p → length w.nodes.now - w.start ≡ size (word_at w.nodes.now w.start) + (length w.nodes.now - p)
+ended : (w : WordAt) (p : ℕ) → Next w.nodes.now w.start p → p - w.start ≡ size (word_at w.nodes.now w.start)
 ended w p n =
-    omega (
-      arith,
-      ap length (word-nodes w.nodes.now w.start p w.whole w.inside n),
-      length-append (code (word_at w.nodes.now w.start)) (drop p w.nodes.now),
-      length-code (word_at w.nodes.now w.start),
-      length-drop w.start w.nodes.now,
-      length-drop p w.nodes.now,
-    )
+    sym (length-between w.nodes.now w.start p n.within)
+    ∙ ap length (word-between w.nodes.now w.start p w.whole w.inside n)
+    ∙ length-code (word_at w.nodes.now w.start)
 
 module _ (a b : WordAt) where
   abbrev l : Word
@@ -71,8 +67,8 @@ module _ (a b : WordAt) where
               ∙ ap (λ (R : List Word × Table). literals r ++ R.0) (sym one);
           table = j.table ∙ ap (λ (R : List Word × Table). R.1) (sym one);
           known = j.known;
-          room = omega (arith, j.room);
-          spare = omega (arith, j.spare);
+          room = omega (arith, j.room, j.left.later, j.left.within);
+          spare = omega (arith, j.spare, j.left.later, j.left.within);
         }
 
   pub added-none : (r : RawClause) (s : List Pair) → ¬ Fellows (root a) (root b) → Inside a.nodes.now b.nodes.now s → Added a.nodes.now b.nodes.now a.start b.start r r s s
