@@ -1,0 +1,9 @@
+// Makes clauses as small as they can be. So far: numbers their variables anew.
+#![tactic(auto)]
+
+mod compact;
+mod numbering;
+mod renumber;
+
+pub use compact::Compact;
+pub use renumber::renumbered_clause;
