@@ -4,7 +4,7 @@ use Rattle.std.proofs.Common.{lit≤}
 use Rattle.std.proofs.lemmas.List.{length-replicate}
 use Rattle.subsume.specs.declared.bits.BitSet.{BitSet}
 use Rattle.subsume.specs.declared.slot.Slot.{Slot}
-use Rattle.subsume.specs.Bits.{bit_at}
+use Rattle.subsume.specs.Bits.{bit_at, First}
 
 -- no targets
 abbrev pub none : BitSet 4
@@ -17,6 +17,10 @@ row sets i = (slice_index_or sets i none).words
 -- 1 where the target j is left for literal i
 abbrev pub left : List (BitSet 4) → (i j : ℕ) → ℕ
 left sets i j = bit_at (row sets i) j
+
+-- some of m literals has no target left
+abbrev pub Spent : List (BitSet 4) → (m : ℕ) → Type 0
+Spent sets m = (i : ℕ) × (i < m) × First (row sets i) None
 
 -- each of m literals has its choice among n targets, and it is left
 abbrev pub Among : List (BitSet 4) → (m n : ℕ) → (ℕ → ℕ) → Type 0

@@ -66,6 +66,13 @@ impl<const W: usize> BitSet<W> {
         Some(64 * w + self.words[w].trailing_zeros() as usize)
     }
 
+    // Whether no number is in the set.
+    pub fn is_empty(&self) -> bool
+        ensures { Decides result (First self.now.words None) }
+    {
+        self.first().is_none()
+    }
+
     // Takes the least number out of the set.
     pub fn pop(&mut self) -> Option<usize>
         ensures { Popped self.old.words self.new.words result }

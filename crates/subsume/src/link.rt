@@ -86,11 +86,11 @@ impl<'a, const N: usize, const K: usize> Table<'a, N, K> {
     }
 
     // For each literal every target that it meets without a clash of symbols.
-    pub fn candidates(&self) -> Candidates
-        ensures length { length result ≡ 256 }
+    pub fn candidates(&self) -> Candidates<N>
+        ensures length { length result ≡ N }
         ensures open { Open self.now.literals.nodes.now self.now.literals.starts.now self.now.targets.nodes.now self.now.targets.starts.now result (length self.now.literals.starts.now) }
     {
-        let mut sets = [BitSet::<4>::new(); 256];
+        let mut sets = [BitSet::<4>::new(); N];
         for (i, set) in sets[..self.literals.len()].iter_mut().enumerate() {
             open_row(set, self.literals.literal(i), self.targets);
         }

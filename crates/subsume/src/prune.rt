@@ -5,7 +5,7 @@ ghost use Rattle.subsume.specs.Choices.{slot_at, Marked, Sifted, Pruned};
 
 use super::bits::BitSet;
 use super::slot::Slot;
-use super::table::{Candidates, Table};
+use super::table::Table;
 
 // How many labels are told apart.
 const LABELS: usize = 4096;
@@ -45,8 +45,9 @@ fn sift(left: &mut BitSet<4>, labels: &[u16], marks: &BitSet<64>) -> bool
 impl<const N: usize, const K: usize> Table<'_, N, K> {
     // Strikes out, in the other literals with the variable of this slot, the candidates that give it a label that no
     // candidate of its own literal gives. Literals that lose a candidate come into the queue.
-    fn revise(&self, slot: &Slot<N>, sets: &mut Candidates, queue: &mut BitSet<4>)
-        requires { (s : ℕ) × (s < length (elems self.now.slots)) × (slot_at (elems self.now.slots) s ≡ slot.now) }
+    fn revise(&self, slot: &Slot<N>, sets: &mut [BitSet<4>], queue: &mut BitSet<4>)
+        requires slot { (s : ℕ) × (s < length (elems self.now.slots)) × (slot_at (elems self.now.slots) s ≡ slot.now) }
+        requires rows { length self.now.literals.starts.now ≤ length sets.old }
         ensures { Pruned (elems self.now.slots) (length self.now.literals.starts.now) (length self.now.targets.starts.now) sets.old sets.new }
     {
         let n = self.targets.len();
@@ -61,7 +62,8 @@ impl<const N: usize, const K: usize> Table<'_, N, K> {
     }
 
     // Strikes out what disagrees with literal `i`.
-    fn revise_literal(&self, i: usize, sets: &mut Candidates, queue: &mut BitSet<4>)
+    fn revise_literal(&self, i: usize, sets: &mut [BitSet<4>], queue: &mut BitSet<4>)
+        requires { length self.now.literals.starts.now ≤ length sets.old }
         ensures { Pruned (elems self.now.slots) (length self.now.literals.starts.now) (length self.now.targets.starts.now) sets.old sets.new }
     {
         for slot in self.slots.as_slice() {
@@ -72,7 +74,8 @@ impl<const N: usize, const K: usize> Table<'_, N, K> {
     }
 
     // Strikes out candidates until no two literals disagree, beginning at the literals in the queue.
-    pub fn prune(&self, sets: &mut Candidates, mut queue: BitSet<4>)
+    pub fn prune(&self, sets: &mut [BitSet<4>], mut queue: BitSet<4>)
+        requires { length self.now.literals.starts.now ≤ length sets.old }
         ensures { Pruned (elems self.now.slots) (length self.now.literals.starts.now) (length self.now.targets.starts.now) sets.old sets.new }
     {
         for _ in 0..ROUNDS {

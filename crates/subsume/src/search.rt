@@ -1,8 +1,8 @@
 // The search: takes the literal with the fewest candidates, tries each, prunes, and goes on.
-ghost use Rattle.std.specs.Prelude.{◌≡◌, ◌<◌, ◌≤◌, true, false, None, length};
+ghost use Rattle.std.specs.Prelude.{◌≡◌, ◌<◌, ◌≤◌, true, false, None, length, Decides};
 ghost use Rattle.bounded.specs.Elems.{elems};
 ghost use Rattle.term.specs.Matched.{Below};
-ghost use Rattle.subsume.specs.Choices.{Settled, Narrowed, Taken, Chosen, Picked, pick, undone};
+ghost use Rattle.subsume.specs.Choices.{Settled, Narrowed, Spent, Taken, Chosen, Picked, pick, undone};
 ghost use Rattle.subsume.specs.Solving.{Solved, Hopeful, Spared};
 
 use super::bits::BitSet;
@@ -62,6 +62,15 @@ impl<const N: usize, const K: usize> Table<'_, N, K> {
         }
     }
 
+    // Whether some literal has no target left.
+    fn spent(&self, state: &State<N>) -> bool
+        ensures { Decides result (Spent state.now.sets (length self.now.literals.starts.now)) }
+    {
+        state.sets[..self.literals.len()]
+            .iter()
+            .any(|left| left.is_empty())
+    }
+
     // The literal with the fewest targets left, of those whose choice is still to be made.
     fn choose(&self, state: &State<N>) -> Option<usize>
         ensures { Chosen result (length self.now.literals.starts.now) state.now.picks }
@@ -81,6 +90,9 @@ impl<const N: usize, const K: usize> Table<'_, N, K> {
         ensures found { result ≡ true → Solved self.now.literals.nodes.now self.now.literals.starts.now self.now.targets.nodes.now self.now.targets.starts.now }
         ensures none { result ≡ false → Hopeful self.now.literals.nodes.now self.now.literals.starts.now self.now.targets.nodes.now self.now.targets.starts.now state.entry.sets → ⊥ }
     {
+        if self.spent(&state) {
+            return false;
+        }
         self.settle(&mut state);
         let Some(i) = self.choose(&state) else {
             return check::<V>(self.literals, self.targets, &state.picks);

@@ -8,8 +8,8 @@ use super::slot::Slot;
 use super::view::View;
 use bounded::Bounded;
 
-// For each of at most 256 literals, which of at most 256 targets are left for it.
-pub type Candidates = [BitSet<4>; 256];
+// For each of at most N literals, which of at most 256 targets are left for it.
+pub type Candidates<const N: usize> = [BitSet<4>; N];
 
 // The literals of one clause, those of another as their targets, and a slot for each variable of each literal, as far as
 // there is room.
