@@ -68,7 +68,7 @@ pub record Narrowed (before after : List ℕ) (j n : ℕ) : Type 0 where
 
 -- an answer is the only target below n that is left
 abbrev pub Settled : Option ℕ → List ℕ → (n : ℕ) → Type 0
-Settled (Some j) words n = (j < n) × (j < 256) × ((k : ℕ) → k < 256 → bit_at words k ≡ 1 → k ≡ j)
+Settled (Some j) words n = (j < n) × (j < 256) × ((k : ℕ) → k < 256 → bit_at words k ≡ 1 → k ≡ j) × (bit_at words j ≡ 1)
 Settled None words n = Unit {0}
 
 -- literal i takes the target j, and then candidates are struck out
@@ -104,3 +104,12 @@ Chosen None m picks = (i : ℕ) → i < m → pick picks i ≡ Some (picked pick
 pub record Picked (sets : List (BitSet 4)) (m n : ℕ) (picks : List (Option ℕ)) : Type 0 where
   pub within : (i : ℕ) → i < m → (j : ℕ) → pick picks i ≡ Some j → j < n
   pub alone : (i : ℕ) → i < m → (j : ℕ) → pick picks i ≡ Some j → (k : ℕ) → k < n → left sets i k ≡ 1 → k ≡ j
+
+-- no target that is left, and none that is chosen, is in the set
+pub record Clear (gone : List ℕ) (sets : List (BitSet 4)) (m n : ℕ) (picks : List (Option ℕ)) : Type 0 where
+  pub lefts : (i : ℕ) → i < m → (j : ℕ) → j < n → left sets i j ≡ 1 → bit_at gone j ≡ 0
+  pub chosen : (i : ℕ) → i < m → (j : ℕ) → pick picks i ≡ Some j → bit_at gone j ≡ 0
+
+-- none of the choices is in the set
+abbrev pub Avoids : (gone : List ℕ) (m : ℕ) → List (Option ℕ) → Type 0
+Avoids gone m picks = (i : ℕ) → i < m → bit_at gone (picked picks i) ≡ 0

@@ -63,7 +63,7 @@ impl<const N: usize, const K: usize> Table<'_, N, K> {
         ensures { result ≡ false → NoneFrom (literals_at self.now.literals.nodes.now self.now.literals.starts.now) (literals_at self.now.targets.nodes.now self.now.targets.starts.now) (elems choice.now ++ j ∷ []) }
     {
         let i = choice.len();
-        state.sets[i].test(j) && self.search::<V>(self.take(state, i, j))
+        state.sets[i].test(j) && self.solvable::<V>(self.take(state, i, j))
     }
 
     // The first choice that works, of those that begin with this one.

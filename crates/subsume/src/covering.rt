@@ -15,6 +15,6 @@ impl View<'_> {
         ensures { Decides result (Covers (literals_at self.entry.nodes.now self.entry.starts.now) (literals_at other.entry.nodes.now other.entry.starts.now)) }
     {
         let table = Table::<N, K>::link(self, other);
-        table.search::<V>(table.start())
+        table.solvable::<V>(table.start())
     }
 }

@@ -1,9 +1,9 @@
 // The search: takes the literal with the fewest candidates, tries each, prunes, and goes on.
-ghost use Rattle.std.specs.Prelude.{◌≡◌, ◌<◌, ◌≤◌, true, false, None, length, Decides};
+ghost use Rattle.std.specs.Prelude.{◌≡◌, ℕ, ◌<◌, ◌≤◌, true, false, List, None, length, Decides, IfSome};
 ghost use Rattle.bounded.specs.Elems.{elems};
 ghost use Rattle.term.specs.Matched.{Below};
-ghost use Rattle.subsume.specs.Choices.{Settled, Narrowed, Spent, Taken, Chosen, Picked, pick, undone};
-ghost use Rattle.subsume.specs.Solving.{Solved, Hopeful, Spared};
+ghost use Rattle.subsume.specs.Choices.{left, Settled, Narrowed, Spent, Taken, Chosen, Picked, Made, Clear, Avoids, pick, picked, undone};
+ghost use Rattle.subsume.specs.Solving.{Works, Solved, Hopeful, Spared};
 
 use super::bits::BitSet;
 use super::check::check;
@@ -53,6 +53,7 @@ impl<const N: usize, const K: usize> Table<'_, N, K> {
         ensures picked { Picked state.new.sets (length self.now.literals.starts.now) (length self.now.targets.starts.now) state.new.picks }
         ensures fewer { undone state.new.picks ≤ undone state.old.picks }
         ensures same { state.new.sets ≡ state.old.sets }
+        ensures clear { (gone : List ℕ) → Clear gone state.old.sets (length self.now.literals.starts.now) (length self.now.targets.starts.now) state.old.picks → Clear gone state.new.sets (length self.now.literals.starts.now) (length self.now.targets.starts.now) state.new.picks }
     {
         // By number: picks lent in place beside the sets are refused, and by `zip` or `enumerate` over both the proof did not close.
         for i in 0..self.literals.len() {
@@ -84,25 +85,41 @@ impl<const N: usize, const K: usize> Table<'_, N, K> {
     }
 
     // Whether some choice works. Where it says no, none works whose targets are left.
-    pub fn search<const V: usize>(&self, mut state: State<N>) -> bool
+    pub fn solvable<const V: usize>(&self, state: State<N>) -> bool
         requires variables { Below V self.now.literals.nodes.now × (V ≤ 65536) }
         requires picked { Picked state.sets (length self.now.literals.starts.now) (length self.now.targets.starts.now) state.picks }
         ensures found { result ≡ true → Solved self.now.literals.nodes.now self.now.literals.starts.now self.now.targets.nodes.now self.now.targets.starts.now }
         ensures none { result ≡ false → Hopeful self.now.literals.nodes.now self.now.literals.starts.now self.now.targets.nodes.now self.now.targets.starts.now state.entry.sets → ⊥ }
     {
+        self.search::<V>(state).is_some()
+    }
+
+    // A choice that works; or none, where none works whose targets are left.
+    pub fn search<const V: usize>(&self, mut state: State<N>) -> Option<[Option<u16>; N]>
+        requires variables { Below V self.now.literals.nodes.now × (V ≤ 65536) }
+        requires picked { Picked state.sets (length self.now.literals.starts.now) (length self.now.targets.starts.now) state.picks }
+        ensures found { IfSome result (λ picks. Made picks (length self.now.literals.starts.now) (length self.now.targets.starts.now) × Works self.now.literals.nodes.now self.now.literals.starts.now self.now.targets.nodes.now self.now.targets.starts.now (picked picks)) }
+        ensures clear { (gone : List ℕ) → Clear gone state.entry.sets (length self.now.literals.starts.now) (length self.now.targets.starts.now) state.entry.picks → IfSome result (λ picks. Avoids gone (length self.now.literals.starts.now) picks) }
+        ensures none { result ≡ None → Hopeful self.now.literals.nodes.now self.now.literals.starts.now self.now.targets.nodes.now self.now.targets.starts.now state.entry.sets → ⊥ }
+    {
         if self.spent(&state) {
-            return false;
+            return None;
         }
         self.settle(&mut state);
         let Some(i) = self.choose(&state) else {
-            return check::<V>(self.literals, self.targets, &state.picks);
+            if check::<V>(self.literals, self.targets, &state.picks) {
+                return Some(state.picks);
+            }
+            return None;
         };
         for j in 0..self.targets.len() {
-            if state.sets[i].test(j) && self.search::<V>(self.take(&state, i, j)) {
-                return true;
+            if state.sets[i].test(j) {
+                if let Some(picks) = self.search::<V>(self.take(&state, i, j)) {
+                    return Some(picks);
+                }
             }
         }
-        false
+        None
     }
 
     // What is left once literal `i` takes the target `j`.
@@ -112,6 +129,7 @@ impl<const N: usize, const K: usize> Table<'_, N, K> {
         ensures taken { Taken (elems self.now.slots) (length self.now.literals.starts.now) (length self.now.targets.starts.now) state.now.sets i j result.sets }
         ensures picked { Picked state.now.sets (length self.now.literals.starts.now) (length self.now.targets.starts.now) state.now.picks → Picked result.sets (length self.now.literals.starts.now) (length self.now.targets.starts.now) result.picks }
         ensures fewer { pick state.now.picks i ≡ None → undone result.picks < undone state.now.picks }
+        ensures clear { (gone : List ℕ) → left state.now.sets i j ≡ 1 → Clear gone state.now.sets (length self.now.literals.starts.now) (length self.now.targets.starts.now) state.now.picks → Clear gone result.sets (length self.now.literals.starts.now) (length self.now.targets.starts.now) result.picks }
     {
         let mut sets = state.sets;
         narrow(&mut sets[i], j, self.targets.len());

@@ -21,7 +21,7 @@ returns-then-test g c =
     λ e.
     none_searched a.nodes.now a.starts.now b.nodes.now b.starts.now (front ++ j ∷ []) next.sets next.picks
     (begun-more a.nodes.now a.starts.now b.nodes.now b.starts.now (elems t.slots) front _ state.sets next.sets state.picks next.picks j t.linked taken begun (c.take.ensures.picked begun.picked) c.requires.literal c.requires.target refl)
-    (c.search.ensures.none e)
+    (c.solvable.ensures.none e)
 
 pub returns-else-test : goal.returns-else-test
 returns-else-test g c =
