@@ -7,3 +7,4 @@ mod Checked
 mod Picking
 mod Searching
 mod Links
+mod Walking
