@@ -7,7 +7,7 @@ use Rattle.term.specs.Words.{Word, var, app, Words, nil, cons, size, sizes, vars
 use Rattle.term.specs.declared.node.Node.{Node}
 use Rattle.term.specs.declared.node.Node.TheVariants.{Variable, Applied}
 use Rattle.term.proofs.Laws.{numbered-parts, stood-more}
-use Rattle.clause.specs.Clauses.{literals_at, each}
+use Rattle.clauses.specs.Clauses.{literals_at, each}
 use Rattle.record.specs.Clauses.{begins, Clause}
 use Rattle.record.specs.Reads.{words_from}
 use Rattle.record.proofs.Places.{from_all}

@@ -6,7 +6,7 @@ use Rattle.std.proofs.lemmas.Bool.{cases_lt}
 use Rattle.term.specs.Coding.{word_at}
 use Rattle.term.specs.Words.{Word, var, sub}
 use Rattle.term.specs.declared.node.Node.{Node}
-use Rattle.clause.specs.Clauses.{Covers, literals_at}
+use Rattle.clauses.specs.Clauses.{Covers, literals_at}
 use Rattle.subsume.specs.declared.bits.BitSet.{BitSet}
 use Rattle.subsume.specs.Solving.{TurnsAt, Solved, Hopeful, Spared}
 

@@ -1,7 +1,7 @@
 -- Records as clauses.
 use Rattle.std.specs.Prelude.{List}
 use Rattle.term.specs.Words.{Word}
-use Rattle.clause.specs.Clauses.{each}
+use Rattle.clauses.specs.Clauses.{each}
 use Rattle.record.specs.declared.clause.Record.{Record}
 use Rattle.record.specs.Records.{literals}
 

@@ -1,7 +1,7 @@
 // Whether one clause covers another (subsumes it).
 ghost use Rattle.std.specs.Prelude.{◌≤◌, length, Decides};
 ghost use Rattle.term.specs.Matched.{Below};
-ghost use Rattle.clause.specs.Clauses.{Covers, literals_at};
+ghost use Rattle.clauses.specs.Clauses.{Covers, literals_at};
 
 use super::table::Table;
 use super::view::View;

@@ -1,7 +1,7 @@
 // Covering of records.
 ghost use Rattle.std.specs.Prelude.{◌≡◌, Decides};
 ghost use Rattle.term.specs.Coding.{codes};
-ghost use Rattle.clause.specs.Clauses.{Covers};
+ghost use Rattle.clauses.specs.Clauses.{Covers};
 ghost use Rattle.record.specs.Clauses.{begins};
 ghost use Rattle.record.specs.Records.{literals};
 ghost use Rattle.subsume.specs.Records.{clause};
