@@ -8,3 +8,4 @@ mod Searching
 mod Links
 pub mod Choosing
 mod Firsts
+mod Walking

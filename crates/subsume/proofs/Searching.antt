@@ -34,7 +34,7 @@ module _ (N : List Node) (S : List ℕ) (M : List Node) (T : List ℕ) where
   pub spared : {C : ℕ} (slots : List (Slot C)) (before after : List (BitSet 4)) → Linked N S M T slots → Open N S M T before (length S)
       → Pruned slots (length S) (length T) before after → Spared N S M T after
   spared slots before after linked wide pruned f inside w =
-      pruned.keeps f (λ x. label_of (w.0 x)) (fits-works slots f linked inside w) (λ i h. (inside i h, wide i (f i) h (inside i h) w.0 (w.1 i h)))
+      pruned.keeps f (λ x. label_of (w.0 x)) (fits-works slots f linked inside w) (λ i h. (inside i h, wide i h (f i) (inside i h) w.0 (w.1 i h)))
 
   -- the literal i takes the target j, and what is struck out by that is not wanted
   pub tried : {C : ℕ} (slots : List (Slot C)) (sets last : List (BitSet 4)) (i j : ℕ) → Linked N S M T slots → Taken slots (length S) (length T) sets i j last

@@ -31,10 +31,15 @@ abbrev pub Fewer : (before after : List (BitSet 4)) (m n : ℕ) → Type 0
 Fewer before after m n = (i j : ℕ) → i < m → j < n → left after i j ≡ 1 → left before i j ≡ 1
 
 abbrev pub no_slot : (N : ℕ) → Slot N
-no_slot N = record { literal = 0; variable = 0; labels = replicate N 0; sized = length-replicate {A = ℕ} N 0 }
+no_slot N = record { literal = 0; variable = 0; before = None; labels = replicate N 0; sized = length-replicate {A = ℕ} N 0 }
 
 abbrev pub slot_at : {N : ℕ} → List (Slot N) → ℕ → Slot N
 slot_at {N} slots s = slice_index_or slots s (no_slot N)
+
+-- an answer is one of the slots, and P holds of it
+abbrev pub Standing : {N : ℕ} → List (Slot N) → (P : Slot N → Type 0) → Option (Slot N) → Type 0
+Standing slots P (Some slot) = (s : ℕ) × (s < length slots) × (slot_at slots s ≡ slot) × P slot
+Standing slots P None = Unit {0}
 
 -- the label that the target j gives the variable of slot s
 abbrev pub entry : {N : ℕ} → List (Slot N) → (s j : ℕ) → ℕ
@@ -49,9 +54,14 @@ pub record Pruned {N : ℕ} (slots : List (Slot N)) (m n : ℕ) (before after : 
   pub keeps : (f v : ℕ → ℕ) → Fits slots f v → Among before m n f → Among after m n f
   pub fewer : Fewer before after m n
 
--- the labels of the first j targets, as far as they are in the set, are marked
-abbrev pub Marked : List ℕ → (labels : List ℕ) → (j : ℕ) → (marks : List ℕ) → Type 0
-Marked words labels j marks = (k : ℕ) → k < j → bit_at words k ≡ 1 → bit_at marks (slice_index labels k % 4096) ≡ 1
+-- the labels of the first j targets, as far as they are in the set and were marked, are marked
+abbrev pub Marked : List ℕ → (labels : List ℕ) → (j : ℕ) → (before after : List ℕ) → Type 0
+Marked words labels j before after =
+    (k : ℕ) → k < j → bit_at words k ≡ 1 → bit_at before (slice_index labels k % 4096) ≡ 1 → bit_at after (slice_index labels k % 4096) ≡ 1
+
+-- the label that a choice gives the variable x is marked, where it agrees with the table
+abbrev pub Shared : {N : ℕ} → List (Slot N) → (m n : ℕ) → List (BitSet 4) → (x : ℕ) → (marks : List ℕ) → Type 0
+Shared slots m n sets x marks = (f v : ℕ → ℕ) → Fits slots f v → Among sets m n f → bit_at marks (v x % 4096) ≡ 1
 
 -- of the first j targets, only such were struck out as have no marked label
 pub record Sifted (before after : List ℕ) (labels : List ℕ) (j : ℕ) (marks : List ℕ) : Type 0 where

@@ -35,10 +35,10 @@ impl<const N: usize, const K: usize> Table<'_, N, K> {
         ensures picked { Picked result.sets (length self.now.literals.starts.now) (length self.now.targets.starts.now) result.picks }
         ensures spared { Spared self.now.literals.nodes.now self.now.literals.starts.now self.now.targets.nodes.now self.now.targets.starts.now result.sets }
     {
-        let mut sets = self.candidates();
-        let mut queue = BitSet::<4>::new();
+        let mut sets = self.candidates;
+        let mut queue = BitSet::<64>::new();
         for i in 0..self.literals.len() {
-            queue.include(i);
+            self.enqueue(i, &mut queue);
         }
         self.prune(&mut sets, queue);
         State {
@@ -133,8 +133,8 @@ impl<const N: usize, const K: usize> Table<'_, N, K> {
     {
         let mut sets = state.sets;
         narrow(&mut sets[i], j, self.targets.len());
-        let mut queue = BitSet::<4>::new();
-        queue.include(i);
+        let mut queue = BitSet::<64>::new();
+        self.enqueue(i, &mut queue);
         self.prune(&mut sets, queue);
         let mut picks = state.picks;
         picks[i] = Some(j as u16);
