@@ -3,3 +3,4 @@ pub mod Truths
 pub mod Showing
 pub mod Separated
 pub mod Made
+mod Explaining

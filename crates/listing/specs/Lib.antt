@@ -4,3 +4,4 @@ pub mod Shown
 pub mod FaultLines
 pub mod PlaceLines
 pub mod RecordLines
+pub mod Explained

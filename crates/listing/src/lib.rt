@@ -1,6 +1,7 @@
 // What the programs print, as values.
 #![tactic(auto)]
 
+mod coverings;
 mod faults;
 mod listings;
 mod numbers;
@@ -8,6 +9,7 @@ mod places;
 mod records;
 mod words;
 
+pub use coverings::{explain, list_covering};
 pub use listings::Listing;
 pub use numbers::list_numbers;
 pub use places::list_place;

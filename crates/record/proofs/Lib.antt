@@ -7,3 +7,4 @@ pub mod Kept
 pub mod Turns
 pub mod Back
 pub mod Forms
+pub mod Views

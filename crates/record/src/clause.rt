@@ -8,6 +8,7 @@ ghost use Rattle.clauses.specs.Beginnings.{begins};
 use bounded::Bounded;
 use term::Node;
 
+mod covering;
 mod ops;
 mod packing;
 

@@ -1,1 +1,3 @@
 pub mod Progress
+pub mod Compacts
+pub mod Numbers

@@ -1,9 +1,9 @@
-// Tidying of clauses: dropping what is idle.
+// Makes clauses as small as they can be. So far: numbers their variables anew.
 #![tactic(auto)]
-ghost use Rattle.std.specs.Prelude.{◌≡◌, ℕ};
-ghost use Rattle.clauses.specs.Clauses.{Covers};
-ghost use Rattle.reduction.specs.Progress.{Progress};
 
-pub fn temp()
-    ensures { (a b : ℕ) → a ≡ b → b ≡ a }
-{}
+mod compact;
+mod numbering;
+mod renumber;
+
+pub use compact::Compact;
+pub use renumber::renumbered_clause;

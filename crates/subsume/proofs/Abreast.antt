@@ -12,7 +12,7 @@ use Rattle.term.proofs.Codings.{after_one, len-tl, code-decode, whole_drop, at_w
 use Rattle.term.proofs.Joinings.{fellows-same}
 use Rattle.term.proofs.Matchings.{turns-never, turns-places, turns-first}
 use Rattle.term.proofs.Walked.{tl-places}
-use Rattle.subsume.specs.Meeting.{Stepped}
+use Rattle.subsume.specs.Meeting.{Abreast, Stepped}
 
 -- so many words, and those after them
 first-add : (k n : ℕ) (us : Words) → first (n + k) us ≡ first k us +++ first n (after k us)
@@ -30,14 +30,6 @@ same_place : (a : List Node) (p q : ℕ) → Whole a → p ≤ length a → q �
 same_place a p q w hp hq e =
     let long : (n : ℕ) → length (codes (words_at a n)) ≡ length a - n = λ n. ap length (code-decode (drop n a) (whole_drop n a w)) ∙ length-drop n a in
     omega (arith, long p, long q, ap (λ (us : Words). length (codes us)) e)
-
--- m words are still to come, from `at` and q on
-pub record Abreast (a b : List Node) (i j at q : ℕ) : Type 0 where
-  pub m : ℕ
-  pub left : m ≤ len (words_at a at)
-  pub right : m ≤ len (words_at b q)
-  pub rest : after m (words_at a at) ≡ tl (words_at a i)
-  pub turns : (θ : ℕ → Word) → Turns a i b j θ → subs θ (first m (words_at a at)) ≡ first m (words_at b q)
 
 module _ (u v : WordAt) where
   abbrev a : List Node

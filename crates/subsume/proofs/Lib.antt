@@ -1,3 +1,4 @@
+mod Covered
 mod Sets
 mod Pruning
 mod Abreast
@@ -5,3 +6,6 @@ mod Checked
 mod Picking
 mod Searching
 mod Links
+pub mod Choosing
+mod Firsts
+mod Walking

@@ -1,5 +1,5 @@
 -- The table of labels, slot by slot.
-use Rattle.std.proofs.Common.{◌≡◌, ℕ, ◌+◌, ◌<◌, List, [], ◌∷◌, ◌++◌, length, get_or, drop, sym, ap, ◌∙◌, subst, ⊎_elim, arith}
+use Rattle.std.proofs.Common.{◌≡◌, ℕ, ◌+◌, ◌<◌, List, [], ◌∷◌, ◌++◌, length, get_or, drop, Some, None, Option, inl, inr, refl, sym, ap, ◌∙◌, subst, ⊎_elim, ◌⊎◌, ◌≢◌, arith}
 use Rattle.std.proofs.lemmas.List.{get_or_append_left, get_or_push, length_push}
 use Rattle.std.proofs.lemmas.Bool.{cases_eq}
 use Rattle.term.specs.Coding.{hd, word_at}
@@ -11,7 +11,7 @@ use Rattle.term.proofs.Matchings.{turns-variable}
 use Rattle.subsume.specs.declared.slot.Slot.{Slot}
 use Rattle.subsume.specs.Choices.{no_slot, slot_at}
 use Rattle.subsume.specs.Meeting.{label_of}
-use Rattle.subsume.specs.Solving.{TurnsAt, Linked}
+use Rattle.subsume.specs.Solving.{TurnsAt, Named, Linked, Gives, Ruled}
 
 pub variable-at : (nodes : List Node) (p x : ℕ) → p < length nodes → get_or nodes p (Variable 0) ≡ Variable x → word_at nodes p ≡ var x
 variable-at nodes p x h e = ap hd (at_words nodes p (Variable 0) h) ∙ turns-variable (get_or nodes p (Variable 0)) (drop (p + 1) nodes) x e
@@ -31,3 +31,20 @@ module _ (N : List Node) (S : List ℕ) (M : List Node) (T : List ℕ) {C : ℕ}
       let here : slot_at (slots ++ slot ∷ []) s ≡ slot_at slots s = get_or_append_left slots (slot ∷ []) (no_slot C) s before in
       subst P (sym here) (linked s before))
       (cases_eq s (length slots))
+
+module _ (N : List Node) (S : List ℕ) (M : List Node) (T : List ℕ) where
+  -- targets that give the variable another word than the literal's slot has
+  pub ruled-by : (i x : ℕ) (before after : List (Option ℕ)) (labels others : List ℕ) → Gives N S M T i x before
+      → ((j q : ℕ) → get_or before j None ≡ Some q → get_or labels j 0 ≡ label_of (word_at M q)) → Named N S M T i x others
+      → ((j : ℕ) → (get_or after j None ≡ get_or before j None) ⊎ ((get_or after j None ≡ None) × (get_or labels j 0 ≢ get_or others j 0)))
+      → Ruled N S M T i before after
+  ruled-by i x before after labels others gives told named agreed j h = ruled (get_or before j None) refl (agreed j)
+    where
+      ruled : (o : Option ℕ) → get_or before j None ≡ o → (get_or after j None ≡ get_or before j None) ⊎ ((get_or after j None ≡ None) × (get_or labels j 0 ≢ get_or others j 0))
+          → (get_or after j None ≡ get_or before j None) ⊎ ((get_or after j None ≡ None) × ((θ : ℕ → Word) → TurnsAt N S M T θ i j → ⊥))
+      ruled o e (inl same) = inl same
+      ruled None e (inr r) = inl (r.0 ∙ sym e)
+      ruled (Some q) e (inr r) = inr (
+        r.0,
+        λ θ t. r.1 (told j q e ∙ ap label_of (sym (((gives j h).0 q e).1 θ t)) ∙ sym (named j h θ t)),
+      )

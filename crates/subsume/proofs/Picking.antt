@@ -7,7 +7,7 @@ use Rattle.std.specs.Option.{is_some}
 use Rattle.subsume.specs.declared.bits.BitSet.{BitSet}
 use Rattle.subsume.specs.declared.slot.Slot.{Slot}
 use Rattle.subsume.specs.Bits.{bit_at}
-use Rattle.subsume.specs.Choices.{left, pick, picked, Fewer, Taken, Picked, Chosen, undone}
+use Rattle.subsume.specs.Choices.{left, pick, picked, Fewer, Taken, Picked, Clear, Chosen, undone}
 
 -- a choice that is made counts no more
 pub undone-set : (picks : List (Option ℕ)) (i j : ℕ) → undone (set picks i (Some j)) ≤ undone picks
@@ -38,6 +38,17 @@ module _ (m n : ℕ) where
         alone = λ l h x e k b f. ⊎_elim
             (λ (s : l ≡ i). only k b (ap (λ (y : ℕ). left sets y k) (sym s) ∙ f) ∙ here l x s e)
             (λ s. p.alone l h x (there l x s e) k b f)
+            (cases_eq l i);
+      }
+
+  pub clear-set : (gone : List ℕ) (sets : List (BitSet 4)) (picks : List (Option ℕ)) (i j : ℕ) → i < length picks → bit_at gone j ≡ 0 → Clear gone sets m n picks → Clear gone sets m n (set picks i (Some j))
+  clear-set gone sets picks i j inside out c =
+      let made = set picks i (Some j) in
+      record {
+        lefts = c.lefts;
+        chosen = λ l h x e. ⊎_elim
+            (λ (s : l ≡ i). let z : Some j ≡ Some x = sym (ap (pick made) s ∙ get_or-set_same picks i (Some j) None inside) ∙ e in let y : j ≡ x = cc in ap (bit_at gone) (sym y) ∙ out)
+            (λ s. c.chosen l h x (sym (get_or-set_other picks i l (Some j) None s) ∙ e))
             (cases_eq l i);
       }
 

@@ -5,7 +5,7 @@ use Rattle.std.proofs.lemmas.Bool.{cases_eq}
 use Rattle.subsume.specs.declared.bits.BitSet.{BitSet}
 use Rattle.subsume.specs.declared.slot.Slot.{Slot}
 use Rattle.subsume.specs.Bits.{bit_at}
-use Rattle.subsume.specs.Choices.{none, row, left, slot_at, Pruned, Marked, Sifted}
+use Rattle.subsume.specs.Choices.{none, row, left, slot_at, Fits, Pruned, Marked, Shared, Sifted}
 
 -- an element that was read from a list
 pub item : {T : Type 0} (xs ys : List T) (i : ℕ) (x d : T) → xs ≡ ys → i < length xs → x ≡ get_or xs i x → get_or ys i d ≡ x
@@ -22,13 +22,15 @@ pub row-set_other : (c : List (BitSet 4)) (i k : ℕ) (r : BitSet 4) → (k ≡ 
 row-set_other c i k r n = ap (λ (z : BitSet 4). z.words) (get_or-set_other c i k r none n)
 
 -- marks by the first n labels
-module _ (labels : List ℕ) (n : ℕ) (few : n ≤ length labels) (marks : List ℕ) where
-  pub marked-first : (words : List ℕ) → Marked words (take n labels) (length (take n labels)) marks → Marked words labels n marks
-  marked-first words m = λ k h e.
-      subst (λ (l : ℕ). bit_at marks (l % 4096) ≡ 1) (get_or-take n labels k 0 h) (m k (omega (arith, length-take-le n labels few, h)) e)
+module _ (labels : List ℕ) (n : ℕ) (few : n ≤ length labels) where
+  pub marked-first : (words before marks : List ℕ) → Marked words (take n labels) (length (take n labels)) before marks → Marked words labels n before marks
+  marked-first words before marks m = λ k h e b.
+      let long = length-take-le n labels few in
+      let same = get_or-take n labels k 0 h in
+      subst (λ (l : ℕ). bit_at marks (l % 4096) ≡ 1) same (m k (omega (arith, long, h)) e (subst (λ (l : ℕ). bit_at before (l % 4096) ≡ 1) (sym same) b))
 
-  pub sifted-first : (before after : List ℕ) → Sifted before after (take n labels) (length (take n labels)) marks → Sifted before after labels n marks
-  sifted-first before after s =
+  pub sifted-first : (before after marks : List ℕ) → Sifted before after (take n labels) (length (take n labels)) marks → Sifted before after labels n marks
+  sifted-first before after marks s =
       let long = length-take-le n labels few in
       record {
         outside = λ l h. s.outside l (omega (arith, long, h));
@@ -43,45 +45,53 @@ module _ {N : ℕ} (slots : List (Slot N)) (m n : ℕ) where
   pub pruned-then : (c d e : List (BitSet 4)) → Pruned slots m n c d → Pruned slots m n d e → Pruned slots m n c e
   pruned-then c d e p q = record { keeps = λ f v fits a. q.keeps f v fits (p.keeps f v fits a); fewer = λ i j h g x. p.fewer i j h g (q.fewer i j h g x) }
 
-  pub sift-prunes : (start c : List (BitSet 4)) (slot other : Slot N) (s t : ℕ)
-      → s < length slots → slot_at slots s ≡ slot → t < length slots → slot_at slots t ≡ other
-      → slot.literal < m → other.literal < length c → other.variable ≡ slot.variable
-      → (first before marks : List ℕ) (after : BitSet 4) → row start slot.literal ≡ first → row c other.literal ≡ before
-      → Marked first slot.labels n marks → Pruned slots m n start c → Sifted before after.words other.labels n marks
-      → Pruned slots m n start (set c other.literal after)
-  sift-prunes start c slot other s t hs is-s ht is-t own inside same first before marks after is-first is-before marked so_far sifted =
-      let k = other.literal in
-      let c' = set c k after in
-      record {
-        keeps = λ f v fits a.
-            let among = so_far.keeps f v fits a in
-            let P : Slot N → Type 0 = λ (z : Slot N). get_or z.labels (f z.literal) 0 ≡ v z.variable in
-            let one : P slot = subst P is-s (fits s hs) in
-            let two : P other = subst P is-t (fits t ht) in
-            let o = a slot.literal own in
-            let told : get_or slot.labels (f slot.literal) 0 ≡ get_or other.labels (f k) 0 = one ∙ ap v (sym same) ∙ sym two in
-            let shown : bit_at marks (get_or other.labels (f k) 0 % 4096) ≡ 1 =
-            subst (λ (l : ℕ). bit_at marks (l % 4096) ≡ 1) told (marked (f slot.literal) o.0 (ap (λ (ws : List ℕ). bit_at ws (f slot.literal)) (sym is-first) ∙ o.1)) in
-            λ i h.
-            let x = among i h in (
-              x.0,
-              ⊎_elim
-                  (λ (e : i ≡ k).
-                  ap (λ (l : ℕ). left c' l (f i)) e
-                  ∙ ap (λ (ws : List ℕ). bit_at ws (f i)) (row-set_same c k after inside)
-                  ∙ sifted.kept (f i) x.0
-                  (ap (λ (ws : List ℕ). bit_at ws (f i)) (sym is-before) ∙ ap (λ (l : ℕ). left c l (f i)) (sym e) ∙ x.1)
-                  (subst (λ (l : ℕ). bit_at marks (get_or other.labels (f l) 0 % 4096) ≡ 1) (sym e) shown))
-                  (λ e. ap (λ (ws : List ℕ). bit_at ws (f i)) (row-set_other c k i after e) ∙ x.1)
-                  (cases_eq i k),
-            );
-        fewer = λ i j h g x.
-            so_far.fewer i j h g
-            (⊎_elim
-            (λ (e : i ≡ k).
-            ap (λ (l : ℕ). left c l j) e
-            ∙ ap (λ (ws : List ℕ). bit_at ws j) is-before
-            ∙ sifted.fewer j g (ap (λ (ws : List ℕ). bit_at ws j) (sym (row-set_same c k after inside)) ∙ ap (λ (l : ℕ). left c' l j) (sym e) ∙ x))
-            (λ e. ap (λ (ws : List ℕ). bit_at ws j) (sym (row-set_other c k i after e)) ∙ x)
-            (cases_eq i k));
-      }
+  -- a slot of the variable x: its label is what the choice gives x
+  module _ (x : ℕ) (slot : Slot N) (t : ℕ) (ht : t < length slots) (is : slot_at slots t ≡ slot) (same : slot.variable ≡ x) where
+    told : (f v : ℕ → ℕ) → Fits slots f v → v x ≡ get_or slot.labels (f slot.literal) 0
+    told f v fits =
+        let P : Slot N → Type 0 = λ (z : Slot N). get_or z.labels (f z.literal) 0 ≡ v z.variable in
+        let one : P slot = subst P is (fits t ht) in
+        ap v (sym same) ∙ sym one
+
+    pub shared-more : (sets : List (BitSet 4)) (first before after : List ℕ) → slot.literal < m → row sets slot.literal ≡ first → Marked first slot.labels n before after
+        → Shared slots m n sets x before → Shared slots m n sets x after
+    shared-more sets first before after own is-first marked shared = λ f v fits a.
+        let e = told f v fits in
+        let o = a slot.literal own in
+        subst (λ (l : ℕ). bit_at after (l % 4096) ≡ 1) (sym e)
+        (marked (f slot.literal) o.0 (ap (λ (ws : List ℕ). bit_at ws (f slot.literal)) (sym is-first) ∙ o.1)
+        (subst (λ (l : ℕ). bit_at before (l % 4096) ≡ 1) e (shared f v fits a)))
+
+    pub sift-prunes : (start c : List (BitSet 4)) (before marks : List ℕ) (after : BitSet 4) → slot.literal < length c → row c slot.literal ≡ before
+        → Shared slots m n start x marks → Pruned slots m n start c → Sifted before after.words slot.labels n marks
+        → Pruned slots m n start (set c slot.literal after)
+    sift-prunes start c before marks after inside is-before shared so_far sifted =
+        let k = slot.literal in
+        let c' = set c k after in
+        record {
+          keeps = λ f v fits a.
+              let among = so_far.keeps f v fits a in
+              let shown : bit_at marks (get_or slot.labels (f k) 0 % 4096) ≡ 1 = subst (λ (l : ℕ). bit_at marks (l % 4096) ≡ 1) (told f v fits) (shared f v fits a) in
+              λ i h.
+              let y = among i h in (
+                y.0,
+                ⊎_elim
+                    (λ (e : i ≡ k).
+                    ap (λ (l : ℕ). left c' l (f i)) e
+                    ∙ ap (λ (ws : List ℕ). bit_at ws (f i)) (row-set_same c k after inside)
+                    ∙ sifted.kept (f i) y.0
+                    (ap (λ (ws : List ℕ). bit_at ws (f i)) (sym is-before) ∙ ap (λ (l : ℕ). left c l (f i)) (sym e) ∙ y.1)
+                    (subst (λ (l : ℕ). bit_at marks (get_or slot.labels (f l) 0 % 4096) ≡ 1) (sym e) shown))
+                    (λ e. ap (λ (ws : List ℕ). bit_at ws (f i)) (row-set_other c k i after e) ∙ y.1)
+                    (cases_eq i k),
+              );
+          fewer = λ i j h g y.
+              so_far.fewer i j h g
+              (⊎_elim
+              (λ (e : i ≡ k).
+              ap (λ (l : ℕ). left c l j) e
+              ∙ ap (λ (ws : List ℕ). bit_at ws j) is-before
+              ∙ sifted.fewer j g (ap (λ (ws : List ℕ). bit_at ws j) (sym (row-set_same c k after inside)) ∙ ap (λ (l : ℕ). left c' l j) (sym e) ∙ y))
+              (λ e. ap (λ (ws : List ℕ). bit_at ws j) (sym (row-set_other c k i after e)) ∙ y)
+              (cases_eq i k));
+        }

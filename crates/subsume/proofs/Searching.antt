@@ -1,13 +1,13 @@
 -- What the search tries, and what it leaves out.
-use Rattle.std.proofs.Common.{◌≡◌, ℕ, ◌+◌, ◌<◌, ◌≤◌, Bool, true, false, List, length, Some, Option, Decides, sym, ap, ◌∙◌, subst, ⊎_elim, arith}
-use Rattle.std.proofs.lemmas.Bool.{cases_eq, both_ways}
+use Rattle.std.proofs.Common.{◌≡◌, ℕ, ◌+◌, ◌<◌, ◌≤◌, Bool, true, List, length, Some, None, Option, IfSome, is_some, sym, ap, ◌∙◌, ⊎_elim, arith}
+use Rattle.std.proofs.lemmas.Bool.{cases_eq, false≢true}
 use Rattle.term.specs.declared.node.Node.{Node}
 use Rattle.subsume.specs.declared.bits.BitSet.{BitSet}
 use Rattle.subsume.specs.declared.slot.Slot.{Slot}
 use Rattle.subsume.specs.Bits.{bit_at}
-use Rattle.subsume.specs.Choices.{left, slot_at, pick, picked, Among, Fits, Taken, Picked}
+use Rattle.subsume.specs.Choices.{left, slot_at, picked, Among, Fits, Pruned, Taken, Made}
 use Rattle.subsume.specs.Meeting.{label_of}
-use Rattle.subsume.specs.Solving.{TurnsAt, Works, Linked, Solved, Hopeful}
+use Rattle.subsume.specs.Solving.{Works, Linked, Open, Solved, Hopeful, Spared}
 
 module _ (N : List Node) (S : List ℕ) (M : List Node) (T : List ℕ) where
   -- no choice works that takes one of the first j targets for literal i
@@ -21,6 +21,20 @@ module _ (N : List Node) (S : List ℕ) (M : List Node) (T : List ℕ) where
   pub out-more : (sets : List (BitSet 4)) (i j : ℕ) → Out sets i j → ((h : Hopeful N S M T sets) → h.0 i ≡ j → ⊥) → Out sets i (j + 1)
   unfolding Out
   out-more sets i j o n h l = ⊎_elim (λ (e : h.0 i ≡ j). n h e) (λ e. o h (omega (arith, e))) (cases_eq (h.0 i) j)
+
+  -- a choice that works agrees with the table
+  fits-works : {C : ℕ} (slots : List (Slot C)) (f : ℕ → ℕ) → Linked N S M T slots → ((i : ℕ) → i < length S → f i < length T)
+      → (w : Works N S M T f) → Fits slots f (λ x. label_of (w.0 x))
+  fits-works slots f linked inside w s h =
+      let l = linked s h in
+      let k = (slot_at slots s).literal in
+      l.1 (f k) (inside k l.0) w.0 (w.1 k l.0)
+
+  -- what is left to begin with
+  pub spared : {C : ℕ} (slots : List (Slot C)) (before after : List (BitSet 4)) → Linked N S M T slots → Open N S M T before (length S)
+      → Pruned slots (length S) (length T) before after → Spared N S M T after
+  spared slots before after linked wide pruned f inside w =
+      pruned.keeps f (λ x. label_of (w.0 x)) (fits-works slots f linked inside w) (λ i h. (inside i h, wide i h (f i) (inside i h) w.0 (w.1 i h)))
 
   -- the literal i takes the target j, and what is struck out by that is not wanted
   pub tried : {C : ℕ} (slots : List (Slot C)) (sets last : List (BitSet 4)) (i j : ℕ) → Linked N S M T slots → Taken slots (length S) (length T) sets i j last
@@ -39,24 +53,13 @@ module _ (N : List Node) (S : List ℕ) (M : List Node) (T : List ℕ) where
             (λ s. ap (λ (ws : List ℕ). bit_at ws (f k)) (t.others k s) ∙ a.1)
             (cases_eq k i),
       ) in
-      let v : ℕ → ℕ = λ x. label_of (θ x) in
-      let fits : Fits slots f v = λ s inside.
-      let l = linked s inside in
-      let k = (slot_at slots s).literal in
-      l.1 (f k) (h.1 k l.0).0 θ (h.2.1 k l.0) in
-      (f, t.pruned.keeps f v fits narrow, h.2)
+      let fits = fits-works slots f linked (λ k inside. (h.1 k inside).0) h.2 in
+      (f, t.pruned.keeps f (λ x. label_of (θ x)) fits narrow, h.2)
 
-  -- all choices are made
-  pub decided : (sets : List (BitSet 4)) (picks : List (Option ℕ)) → Picked sets (length S) (length T) picks → ((i : ℕ) → i < length S → pick picks i ≡ Some (picked picks i)) → (r : Bool) → Decides r (Works N S M T (picked picks))
-      → (r ≡ true → Solved N S M T) × (r ≡ false → Hopeful N S M T sets → ⊥)
-  decided sets picks p made r d = (
-    λ e. (picked picks, (λ i inside. p.within i inside (picked picks i) (made i inside)), d.0 e),
-    λ e h.
-        let same : (i : ℕ) → i < length S → h.0 i ≡ picked picks i = λ i inside.
-        let a = h.1 i inside in
-        p.alone i inside (picked picks i) (made i inside) (h.0 i) a.0 a.1 in
-        both_ways r e (d.1 (h.2.0, λ i inside. subst (TurnsAt N S M T h.2.0 i) (same i inside) (h.2.1 i inside))),
-  )
+  -- a choice that was found
+  pub found : (o : Option (List (Option ℕ))) (r : Bool) → IfSome o (λ picks. Made picks (length S) (length T) × Works N S M T (picked picks)) → r ≡ is_some o → r ≡ true → Solved N S M T
+  found None r h e t = absurd (false≢true (sym e ∙ t))
+  found (Some picks) r h e t = (picked picks, (λ i inside. (h.0 i inside).2), h.1)
 
   pub out-all : (sets : List (BitSet 4)) (i j : ℕ) → i < length S → length T ≤ j → Out sets i j → Hopeful N S M T sets → ⊥
   unfolding Out

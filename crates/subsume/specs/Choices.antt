@@ -4,7 +4,7 @@ use Rattle.std.proofs.Common.{lit≤}
 use Rattle.std.proofs.lemmas.List.{length-replicate}
 use Rattle.subsume.specs.declared.bits.BitSet.{BitSet}
 use Rattle.subsume.specs.declared.slot.Slot.{Slot}
-use Rattle.subsume.specs.Bits.{bit_at}
+use Rattle.subsume.specs.Bits.{bit_at, First}
 
 -- no targets
 abbrev pub none : BitSet 4
@@ -18,6 +18,10 @@ row sets i = (slice_index_or sets i none).words
 abbrev pub left : List (BitSet 4) → (i j : ℕ) → ℕ
 left sets i j = bit_at (row sets i) j
 
+-- some of m literals has no target left
+abbrev pub Spent : List (BitSet 4) → (m : ℕ) → Type 0
+Spent sets m = (i : ℕ) × (i < m) × First (row sets i) None
+
 -- each of m literals has its choice among n targets, and it is left
 abbrev pub Among : List (BitSet 4) → (m n : ℕ) → (ℕ → ℕ) → Type 0
 Among sets m n f = (i : ℕ) → i < m → (f i < n) × (left sets i (f i) ≡ 1)
@@ -27,10 +31,15 @@ abbrev pub Fewer : (before after : List (BitSet 4)) (m n : ℕ) → Type 0
 Fewer before after m n = (i j : ℕ) → i < m → j < n → left after i j ≡ 1 → left before i j ≡ 1
 
 abbrev pub no_slot : (N : ℕ) → Slot N
-no_slot N = record { literal = 0; variable = 0; labels = replicate N 0; sized = length-replicate {A = ℕ} N 0 }
+no_slot N = record { literal = 0; variable = 0; before = None; labels = replicate N 0; sized = length-replicate {A = ℕ} N 0 }
 
 abbrev pub slot_at : {N : ℕ} → List (Slot N) → ℕ → Slot N
 slot_at {N} slots s = slice_index_or slots s (no_slot N)
+
+-- an answer is one of the slots, and P holds of it
+abbrev pub Standing : {N : ℕ} → List (Slot N) → (P : Slot N → Type 0) → Option (Slot N) → Type 0
+Standing slots P (Some slot) = (s : ℕ) × (s < length slots) × (slot_at slots s ≡ slot) × P slot
+Standing slots P None = Unit {0}
 
 -- the label that the target j gives the variable of slot s
 abbrev pub entry : {N : ℕ} → List (Slot N) → (s j : ℕ) → ℕ
@@ -45,9 +54,14 @@ pub record Pruned {N : ℕ} (slots : List (Slot N)) (m n : ℕ) (before after : 
   pub keeps : (f v : ℕ → ℕ) → Fits slots f v → Among before m n f → Among after m n f
   pub fewer : Fewer before after m n
 
--- the labels of the first j targets, as far as they are in the set, are marked
-abbrev pub Marked : List ℕ → (labels : List ℕ) → (j : ℕ) → (marks : List ℕ) → Type 0
-Marked words labels j marks = (k : ℕ) → k < j → bit_at words k ≡ 1 → bit_at marks (slice_index labels k % 4096) ≡ 1
+-- the labels of the first j targets, as far as they are in the set and were marked, are marked
+abbrev pub Marked : List ℕ → (labels : List ℕ) → (j : ℕ) → (before after : List ℕ) → Type 0
+Marked words labels j before after =
+    (k : ℕ) → k < j → bit_at words k ≡ 1 → bit_at before (slice_index labels k % 4096) ≡ 1 → bit_at after (slice_index labels k % 4096) ≡ 1
+
+-- the label that a choice gives the variable x is marked, where it agrees with the table
+abbrev pub Shared : {N : ℕ} → List (Slot N) → (m n : ℕ) → List (BitSet 4) → (x : ℕ) → (marks : List ℕ) → Type 0
+Shared slots m n sets x marks = (f v : ℕ → ℕ) → Fits slots f v → Among sets m n f → bit_at marks (v x % 4096) ≡ 1
 
 -- of the first j targets, only such were struck out as have no marked label
 pub record Sifted (before after : List ℕ) (labels : List ℕ) (j : ℕ) (marks : List ℕ) : Type 0 where
@@ -64,7 +78,7 @@ pub record Narrowed (before after : List ℕ) (j n : ℕ) : Type 0 where
 
 -- an answer is the only target below n that is left
 abbrev pub Settled : Option ℕ → List ℕ → (n : ℕ) → Type 0
-Settled (Some j) words n = (j < n) × (j < 256) × ((k : ℕ) → k < 256 → bit_at words k ≡ 1 → k ≡ j)
+Settled (Some j) words n = (j < n) × (j < 256) × ((k : ℕ) → k < 256 → bit_at words k ≡ 1 → k ≡ j) × (bit_at words j ≡ 1)
 Settled None words n = Unit {0}
 
 -- literal i takes the target j, and then candidates are struck out
@@ -100,3 +114,12 @@ Chosen None m picks = (i : ℕ) → i < m → pick picks i ≡ Some (picked pick
 pub record Picked (sets : List (BitSet 4)) (m n : ℕ) (picks : List (Option ℕ)) : Type 0 where
   pub within : (i : ℕ) → i < m → (j : ℕ) → pick picks i ≡ Some j → j < n
   pub alone : (i : ℕ) → i < m → (j : ℕ) → pick picks i ≡ Some j → (k : ℕ) → k < n → left sets i k ≡ 1 → k ≡ j
+
+-- no target that is left, and none that is chosen, is in the set
+pub record Clear (gone : List ℕ) (sets : List (BitSet 4)) (m n : ℕ) (picks : List (Option ℕ)) : Type 0 where
+  pub lefts : (i : ℕ) → i < m → (j : ℕ) → j < n → left sets i j ≡ 1 → bit_at gone j ≡ 0
+  pub chosen : (i : ℕ) → i < m → (j : ℕ) → pick picks i ≡ Some j → bit_at gone j ≡ 0
+
+-- none of the choices is in the set
+abbrev pub Avoids : (gone : List ℕ) (m : ℕ) → List (Option ℕ) → Type 0
+Avoids gone m picks = (i : ℕ) → i < m → bit_at gone (picked picks i) ≡ 0

@@ -2,3 +2,5 @@ pub mod Bits
 pub mod Choices
 pub mod Meeting
 pub mod Solving
+pub mod Steps
+pub mod FirstChoices

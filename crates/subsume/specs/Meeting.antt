@@ -1,26 +1,26 @@
 -- Where the nodes of two words meet that a substitution turns into each other, and the labels of words.
-use Rattle.std.specs.Prelude.{◌≡◌, ℕ, ◌+◌, ◌*◌, ◌%◌, ◌<◌, ◌≤◌, List, [], ◌∷◌, length, Some, None, Option, slice_index_or}
-use Rattle.term.specs.Coding.{code, word_at, Next}
+use Rattle.std.specs.Prelude.{◌≡◌, ℕ, ◌+◌, ◌*◌, ◌%◌, ◌≤◌, List, [], ◌∷◌, Some, None, Option, slice_index_or}
+use Rattle.term.specs.Coding.{code, words_at, Next, first, after, tl}
 use Rattle.term.specs.Joined.{Fellows}
 use Rattle.term.specs.Matched.{Turns}
-use Rattle.term.specs.Words.{Word, sub}
+use Rattle.term.specs.Words.{Word, len, subs}
 use Rattle.term.specs.declared.node.Node.{Node}
 use Rattle.term.specs.declared.node.Node.TheVariants.{Variable, Applied}
 use Rattle.term.specs.declared.node.Symbol.TheVariants.{Function, Positive, Negative}
 
--- p is a node of the word at i, or where that word ends
-abbrev pub Along : List Node → (i p : ℕ) → Type 0
-Along a i p = (e : ℕ) × Next a i e × (i ≤ p) × (p ≤ e)
+-- of the word at i, m words are still to come from p on; a substitution that turns it into the word at j turns these into
+-- the m words from q on
+pub record Abreast (a b : List Node) (i j p q : ℕ) : Type 0 where
+  pub m : ℕ
+  pub left : m ≤ len (words_at a p)
+  pub right : m ≤ len (words_at b q)
+  pub rest : after m (words_at a p) ≡ tl (words_at a i)
+  pub turns : (θ : ℕ → Word) → Turns a i b j θ → subs θ (first m (words_at a p)) ≡ first m (words_at b q)
 
--- p is a node of the word at i
-abbrev pub Inner : List Node → (i p : ℕ) → Type 0
-Inner a i p = (e : ℕ) × Next a i e × (i ≤ p) × (p < e)
-
--- an answer for the node p of the word at i: where it is met when a substitution turns this word into the word at j; or none,
--- where no substitution does
-abbrev pub Met : List Node → (i p : ℕ) → List Node → (j : ℕ) → Option ℕ → Type 0
-Met a i p b j None = (θ : ℕ → Word) → Turns a i b j θ → ⊥
-Met a i p b j (Some q) = (e : ℕ) → Next a i e → p < e → (q < length b) × ((θ : ℕ → Word) → Turns a i b j θ → sub θ (word_at a p) ≡ word_at b q)
+-- where the node p of the word at i is met in the word at j; or none, where no substitution turns the one into the other
+abbrev pub Reached : List Node → (i p : ℕ) → List Node → (j : ℕ) → Option ℕ → Type 0
+Reached a i p b j (Some q) = Abreast a b i j p q
+Reached a i p b j None = (θ : ℕ → Word) → Turns a i b j θ → ⊥
 
 -- one node on: a variable is met by a word, and a symbol by the same symbol
 abbrev pub Stepped : Node → List Node → (q : ℕ) → Option ℕ → Type 0
@@ -28,6 +28,11 @@ Stepped (Variable x) b q (Some r) = Next b q r
 Stepped (Variable x) b q None = ⊥
 Stepped (Applied s k) b q (Some r) = Fellows (Applied s k) (slice_index_or b q (Variable 0)) × (r ≡ q + 1)
 Stepped (Applied s k) b q None = Fellows (Applied s k) (slice_index_or b q (Variable 0)) → ⊥
+
+-- the same in each of several words, as far as the walk has not ended there
+abbrev pub Advanced : Node → List Node → (before after : Option ℕ) → Type 0
+Advanced node b (Some q) after = Stepped node b q after
+Advanced node b None after = after ≡ None
 
 -- a label of a word: equal words have equal labels, and other words mostly have others
 abbrev pub number : Node → ℕ

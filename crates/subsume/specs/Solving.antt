@@ -1,11 +1,13 @@
 -- Choices that some substitution makes, by nodes and where literals begin.
-use Rattle.std.specs.Prelude.{◌≡◌, ℕ, ◌<◌, List, length, slice_index}
+use Rattle.std.specs.Prelude.{◌≡◌, ℕ, ◌<◌, ◌⊎◌, List, length, Some, None, Option, slice_index, slice_index_or}
+use Rattle.term.specs.Coding.{word_at}
 use Rattle.term.specs.Matched.{Turns}
 use Rattle.term.specs.Words.{Word}
 use Rattle.term.specs.declared.node.Node.{Node}
 use Rattle.subsume.specs.declared.bits.BitSet.{BitSet}
 use Rattle.subsume.specs.declared.slot.Slot.{Slot}
-use Rattle.subsume.specs.Choices.{left, Among, entry, slot_at}
+use Rattle.subsume.specs.Bits.{bit_at}
+use Rattle.subsume.specs.Choices.{row, Among, slot_at}
 use Rattle.subsume.specs.Meeting.{label_of}
 
 module _ (N : List Node) (S : List ℕ) (M : List Node) (T : List ℕ) where
@@ -17,16 +19,38 @@ module _ (N : List Node) (S : List ℕ) (M : List Node) (T : List ℕ) where
   abbrev pub Works : (ℕ → ℕ) → Type 0
   Works f = (θ : ℕ → Word) × ((i : ℕ) → i < length S → TurnsAt θ i (f i))
 
-  -- each label of the table is that of the word that the target gives the variable
+  -- each label is that of the word that the target gives the variable x of literal i
+  abbrev pub Named : (i x : ℕ) → List ℕ → Type 0
+  Named i x labels = (j : ℕ) → j < length T → (θ : ℕ → Word) → TurnsAt θ i j → slice_index labels j ≡ label_of (θ x)
+
+  -- the same for each slot of the table
   abbrev pub Linked : {C : ℕ} → List (Slot C) → Type 0
   Linked slots =
       (s : ℕ) → s < length slots
-      → ((slot_at slots s).literal < length S)
-      × ((j : ℕ) → j < length T → (θ : ℕ → Word) → TurnsAt θ (slot_at slots s).literal j → entry slots s j ≡ label_of (θ (slot_at slots s).variable))
+      → ((slot_at slots s).literal < length S) × Named (slot_at slots s).literal (slot_at slots s).variable (slot_at slots s).labels
 
-  -- every target that a literal can be turned into is left for it, of the first m literals
+  -- a place for each target: where the word stands that it gives the variable x of literal i; or none, where the literal
+  -- is not turned into it
+  abbrev pub Gives : (i x : ℕ) → List (Option ℕ) → Type 0
+  Gives i x at =
+      (j : ℕ) → j < length T
+      → ((q : ℕ) → slice_index_or at j None ≡ Some q → (q < length M) × ((θ : ℕ → Word) → TurnsAt θ i j → θ x ≡ word_at M q))
+      × (slice_index_or at j None ≡ None → (θ : ℕ → Word) → TurnsAt θ i j → ⊥)
+
+  -- places are taken away only from targets into which literal i is not turned
+  abbrev pub Ruled : (i : ℕ) → (before after : List (Option ℕ)) → Type 0
+  Ruled i before after =
+      (j : ℕ) → j < length T
+      → (slice_index_or after j None ≡ slice_index_or before j None)
+      ⊎ ((slice_index_or after j None ≡ None) × ((θ : ℕ → Word) → TurnsAt θ i j → ⊥))
+
+  -- every target that literal i can be turned into is in the set
+  abbrev pub OpenAt : (i : ℕ) → List ℕ → Type 0
+  OpenAt i words = (j : ℕ) → j < length T → (θ : ℕ → Word) → TurnsAt θ i j → bit_at words j ≡ 1
+
+  -- and it is left for it, of the first m literals
   abbrev pub Open : List (BitSet 4) → (m : ℕ) → Type 0
-  Open sets m = (i j : ℕ) → i < m → j < length T → (θ : ℕ → Word) → TurnsAt θ i j → left sets i j ≡ 1
+  Open sets m = (i : ℕ) → i < m → OpenAt i (row sets i)
 
   -- some choice of targets works
   abbrev pub Solved : Type 0
@@ -35,3 +59,7 @@ module _ (N : List Node) (S : List ℕ) (M : List Node) (T : List ℕ) where
   -- some choice works whose targets are left
   abbrev pub Hopeful : List (BitSet 4) → Type 0
   Hopeful sets = (f : ℕ → ℕ) × Among sets (length S) (length T) f × Works f
+
+  -- every choice that works is left
+  abbrev pub Spared : List (BitSet 4) → Type 0
+  Spared sets = (f : ℕ → ℕ) → ((i : ℕ) → i < length S → f i < length T) → Works f → Among sets (length S) (length T) f

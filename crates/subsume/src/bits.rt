@@ -1,6 +1,6 @@
 // Sets of numbers, as bits in words of 64.
 ghost use Rattle.std.specs.Prelude.{◌≡◌, ℕ, ◌*◌, ◌<◌, ◌≤◌, ⊤, length, map, sum, count_ones, Decides, ◌≢◌};
-ghost use Rattle.subsume.specs.Bits.{bit_at, First, Popped, Only};
+ghost use Rattle.subsume.specs.Bits.{bit_at, First, FirstFrom, Popped, Only};
 
 use std::alloc::AllocError;
 
@@ -30,6 +30,16 @@ impl<const W: usize> BitSet<W> {
         ensures { (k : ℕ) → bit_at result.words k ≡ 0 }
     {
         BitSet { words: [0; W] }
+    }
+
+    // The set of all numbers below 64 * W.
+    pub fn full() -> BitSet<W>
+        requires { W ≤ 1024 }
+        ensures { (k : ℕ) → k < 64 * W → bit_at result.words k ≡ 1 }
+    {
+        BitSet {
+            words: [u64::MAX; W],
+        }
     }
 
     // Whether `k` is in the set.
@@ -64,6 +74,34 @@ impl<const W: usize> BitSet<W> {
     {
         let w = self.words.iter().position(|word| *word != 0)?;
         Some(64 * w + self.words[w].trailing_zeros() as usize)
+    }
+
+    // The least number in the set from `from` on.
+    pub fn first_from(&self, from: usize) -> Option<usize>
+        ensures { FirstFrom self.now.words from result }
+    {
+        let w = from / 64;
+        if w >= W {
+            return None;
+        }
+        let rest = self.words[w] >> (from % 64);
+        if rest != 0 {
+            return Some(from + rest.trailing_zeros() as usize);
+        }
+        // By number: over a part of the words the proof would have to count from two starts.
+        for v in w + 1..W {
+            if self.words[v] != 0 {
+                return Some(64 * v + self.words[v].trailing_zeros() as usize);
+            }
+        }
+        None
+    }
+
+    // Whether no number is in the set.
+    pub fn is_empty(&self) -> bool
+        ensures { Decides result (First self.now.words None) }
+    {
+        self.first().is_none()
     }
 
     // Takes the least number out of the set.

@@ -3,6 +3,8 @@
 
 mod bits;
 mod check;
+mod choice;
+mod covering;
 mod link;
 mod meeting;
 mod prune;
@@ -11,3 +13,5 @@ mod slot;
 mod state;
 mod table;
 mod view;
+
+pub use view::View;

@@ -1,22 +1,42 @@
-// Walks over two words side by side, and labels of words.
-ghost use Rattle.std.specs.Prelude.{◌≡◌, ℕ, ◌<◌, ◌≤◌, length, Some};
+// A walk along one literal and along each target beside it, and labels of words.
+ghost use Rattle.std.specs.Prelude.{◌≡◌, ℕ, ◌<◌, ◌≤◌, length, slice_index, slice_index_or, Some, None, ◌≢◌, ◌⊎◌};
 ghost use Rattle.term.specs.Coding.{word_at};
-ghost use Rattle.term.specs.Matched.{Turns};
-ghost use Rattle.term.specs.Words.{Word, sub};
-ghost use Rattle.subsume.specs.Meeting.{Along, Inner, Met, Stepped, number, label_of};
+ghost use Rattle.subsume.specs.Bits.{bit_at};
+ghost use Rattle.subsume.specs.Meeting.{Stepped, Advanced, number, label_of};
 
+use super::bits::BitSet;
+use super::view::View;
 use term::{Node, Symbol, WordAt, fellows};
 
-// Where the node `p` of the word `a` is met in the word `b`, or none where the words differ before it in a symbol.
-pub fn meet(a: WordAt<'_>, p: usize, b: WordAt<'_>) -> Option<usize>
-    requires { Along a.nodes.now a.start p }
-    ensures { Met a.entry.nodes.now a.entry.start p b.entry.nodes.now b.entry.start result }
+// Where the walk begins: in each target at its start.
+pub fn begin<const N: usize>(targets: View<'_>) -> [Option<usize>; N]
+    requires { length targets.starts.now ≤ N }
+    ensures begun { (j : ℕ) → j < length targets.entry.starts.now → slice_index_or result j None ≡ Some (slice_index targets.entry.starts.now j) }
+    ensures size { length result ≡ N }
 {
-    let mut q = b.start;
-    for node in &a.nodes[a.start..p] {
-        q = beside(*node, b.at(q))?;
+    let mut at = [None; N];
+    for (j, place) in at[..targets.len()].iter_mut().enumerate() {
+        *place = Some(targets.starts[j]);
     }
-    Some(q)
+    at
+}
+
+// One node of the literal on, in each target that has not clashed with it.
+pub fn advance(at: &mut [Option<usize>], node: Node, targets: View<'_>)
+    requires { (j q : ℕ) → slice_index_or at.old j None ≡ Some q → q < length targets.nodes.now }
+    ensures { (j : ℕ) → Advanced node targets.entry.nodes.now (slice_index_or at.old j None) (slice_index_or at.new j None) }
+{
+    for place in at {
+        if let Some(start) = *place {
+            *place = beside(
+                node,
+                WordAt {
+                    nodes: targets.nodes,
+                    start,
+                },
+            );
+        }
+    }
 }
 
 // One node on: what meets a variable is a whole word, and what meets a symbol is the same symbol.
@@ -31,6 +51,51 @@ fn beside(node: Node, b: WordAt<'_>) -> Option<usize>
     } else {
         None
     }
+}
+
+// For each target, the label of the word where the walk stands; 0, for which nothing asks, where it has clashed.
+pub fn labels<const N: usize>(at: &[Option<usize>], targets: View<'_>) -> [u16; N]
+    requires size { length at.now ≤ N }
+    requires inside { (j q : ℕ) → slice_index_or at.now j None ≡ Some q → q < length targets.nodes.now }
+    ensures labels { (j q : ℕ) → slice_index_or at.now j None ≡ Some q → slice_index result j ≡ label_of (word_at targets.entry.nodes.now q) }
+    ensures size { length result ≡ N }
+{
+    let mut row = [0; N];
+    for (j, place) in at.iter().enumerate() {
+        if let Some(start) = *place {
+            row[j] = label(WordAt {
+                nodes: targets.nodes,
+                start,
+            });
+        }
+    }
+    row
+}
+
+// Ends the walk in each target whose two labels differ.
+pub fn agree(at: &mut [Option<usize>], labels: &[u16], others: &[u16])
+    requires { (length at.old ≤ length labels.now) × (length at.old ≤ length others.now) }
+    ensures { (j : ℕ) → (slice_index_or at.new j None ≡ slice_index_or at.old j None) ⊎ ((slice_index_or at.new j None ≡ None) × (slice_index labels.now j ≢ slice_index others.now j)) }
+{
+    for (j, place) in at.iter_mut().enumerate() {
+        if labels[j] != others[j] {
+            *place = None;
+        }
+    }
+}
+
+// The targets that have not clashed.
+pub fn met(at: &[Option<usize>]) -> BitSet<4>
+    requires { length at.now ≤ 256 }
+    ensures { (j q : ℕ) → slice_index_or at.now j None ≡ Some q → bit_at result.words j ≡ 1 }
+{
+    let mut left = BitSet::<4>::new();
+    for (j, place) in at.iter().enumerate() {
+        if place.is_some() {
+            left.include(j);
+        }
+    }
+    left
 }
 
 // The label of a word.
@@ -57,12 +122,4 @@ fn number(node: Node) -> u32
         Node::Applied(Symbol::Positive(p), _) => 2 * p as u32,
         Node::Applied(Symbol::Negative(p), _) => 2 * p as u32 + 1,
     }
-}
-
-// The label of the word that the target `b` gives the node `p` of the literal `a`, or none where it cannot be the target.
-pub fn met_label(a: WordAt<'_>, p: usize, b: WordAt<'_>) -> Option<u16>
-    requires { Inner a.nodes.now a.start p }
-    ensures { (θ : ℕ → Word) → Turns a.entry.nodes.now a.entry.start b.entry.nodes.now b.entry.start θ → result ≡ Some (label_of (sub θ (word_at a.entry.nodes.now p))) }
-{
-    Some(label(b.at(meet(a, p, b)?)))
 }

@@ -1,9 +1,9 @@
 // The search: takes the literal with the fewest candidates, tries each, prunes, and goes on.
-ghost use Rattle.std.specs.Prelude.{◌≡◌, ◌<◌, ◌≤◌, true, false, None, length};
+ghost use Rattle.std.specs.Prelude.{◌≡◌, ℕ, ◌<◌, ◌≤◌, true, false, List, None, length, Decides, IfSome};
 ghost use Rattle.bounded.specs.Elems.{elems};
 ghost use Rattle.term.specs.Matched.{Below};
-ghost use Rattle.subsume.specs.Choices.{Settled, Narrowed, Taken, Chosen, Picked, pick, undone};
-ghost use Rattle.subsume.specs.Solving.{Solved, Hopeful};
+ghost use Rattle.subsume.specs.Choices.{left, Settled, Narrowed, Spent, Taken, Chosen, Picked, Made, Clear, Avoids, pick, picked, undone};
+ghost use Rattle.subsume.specs.Solving.{Works, Solved, Hopeful, Spared};
 
 use super::bits::BitSet;
 use super::check::check;
@@ -30,12 +30,30 @@ fn settled(left: &BitSet<4>, n: usize) -> Option<usize>
 }
 
 impl<const N: usize, const K: usize> Table<'_, N, K> {
+    // Where the search begins: pruned from every literal on, and no choice is made.
+    pub fn start(&self) -> State<N>
+        ensures picked { Picked result.sets (length self.now.literals.starts.now) (length self.now.targets.starts.now) result.picks }
+        ensures spared { Spared self.now.literals.nodes.now self.now.literals.starts.now self.now.targets.nodes.now self.now.targets.starts.now result.sets }
+    {
+        let mut sets = self.candidates;
+        let mut queue = BitSet::<64>::new();
+        for i in 0..self.literals.len() {
+            self.enqueue(i, &mut queue);
+        }
+        self.prune(&mut sets, queue);
+        State {
+            sets,
+            picks: [None; N],
+        }
+    }
+
     // Makes the choices for which one target is left.
     fn settle(&self, state: &mut State<N>)
         requires { Picked state.old.sets (length self.now.literals.starts.now) (length self.now.targets.starts.now) state.old.picks }
         ensures picked { Picked state.new.sets (length self.now.literals.starts.now) (length self.now.targets.starts.now) state.new.picks }
         ensures fewer { undone state.new.picks ≤ undone state.old.picks }
         ensures same { state.new.sets ≡ state.old.sets }
+        ensures clear { (gone : List ℕ) → Clear gone state.old.sets (length self.now.literals.starts.now) (length self.now.targets.starts.now) state.old.picks → Clear gone state.new.sets (length self.now.literals.starts.now) (length self.now.targets.starts.now) state.new.picks }
     {
         // By number: picks lent in place beside the sets are refused, and by `zip` or `enumerate` over both the proof did not close.
         for i in 0..self.literals.len() {
@@ -43,6 +61,15 @@ impl<const N: usize, const K: usize> Table<'_, N, K> {
                 state.picks[i] = Some(j as u16);
             }
         }
+    }
+
+    // Whether some literal has no target left.
+    fn spent(&self, state: &State<N>) -> bool
+        ensures { Decides result (Spent state.now.sets (length self.now.literals.starts.now)) }
+    {
+        state.sets[..self.literals.len()]
+            .iter()
+            .any(|left| left.is_empty())
     }
 
     // The literal with the fewest targets left, of those whose choice is still to be made.
@@ -58,36 +85,56 @@ impl<const N: usize, const K: usize> Table<'_, N, K> {
     }
 
     // Whether some choice works. Where it says no, none works whose targets are left.
-    pub fn search<const V: usize>(&self, mut state: State<N>) -> bool
+    pub fn solvable<const V: usize>(&self, state: State<N>) -> bool
         requires variables { Below V self.now.literals.nodes.now × (V ≤ 65536) }
         requires picked { Picked state.sets (length self.now.literals.starts.now) (length self.now.targets.starts.now) state.picks }
         ensures found { result ≡ true → Solved self.now.literals.nodes.now self.now.literals.starts.now self.now.targets.nodes.now self.now.targets.starts.now }
         ensures none { result ≡ false → Hopeful self.now.literals.nodes.now self.now.literals.starts.now self.now.targets.nodes.now self.now.targets.starts.now state.entry.sets → ⊥ }
     {
+        self.search::<V>(state).is_some()
+    }
+
+    // A choice that works; or none, where none works whose targets are left.
+    pub fn search<const V: usize>(&self, mut state: State<N>) -> Option<[Option<u16>; N]>
+        requires variables { Below V self.now.literals.nodes.now × (V ≤ 65536) }
+        requires picked { Picked state.sets (length self.now.literals.starts.now) (length self.now.targets.starts.now) state.picks }
+        ensures found { IfSome result (λ picks. Made picks (length self.now.literals.starts.now) (length self.now.targets.starts.now) × Works self.now.literals.nodes.now self.now.literals.starts.now self.now.targets.nodes.now self.now.targets.starts.now (picked picks)) }
+        ensures clear { (gone : List ℕ) → Clear gone state.entry.sets (length self.now.literals.starts.now) (length self.now.targets.starts.now) state.entry.picks → IfSome result (λ picks. Avoids gone (length self.now.literals.starts.now) picks) }
+        ensures none { result ≡ None → Hopeful self.now.literals.nodes.now self.now.literals.starts.now self.now.targets.nodes.now self.now.targets.starts.now state.entry.sets → ⊥ }
+    {
+        if self.spent(&state) {
+            return None;
+        }
         self.settle(&mut state);
         let Some(i) = self.choose(&state) else {
-            return check::<V>(self.literals, self.targets, &state.picks);
+            if check::<V>(self.literals, self.targets, &state.picks) {
+                return Some(state.picks);
+            }
+            return None;
         };
         for j in 0..self.targets.len() {
-            if state.sets[i].test(j) && self.search::<V>(self.take(&state, i, j)) {
-                return true;
+            if state.sets[i].test(j) {
+                if let Some(picks) = self.search::<V>(self.take(&state, i, j)) {
+                    return Some(picks);
+                }
             }
         }
-        false
+        None
     }
 
     // What is left once literal `i` takes the target `j`.
-    fn take(&self, state: &State<N>, i: usize, j: usize) -> State<N>
+    pub fn take(&self, state: &State<N>, i: usize, j: usize) -> State<N>
         requires literal { i < length self.now.literals.starts.now }
         requires target { j < length self.now.targets.starts.now }
         ensures taken { Taken (elems self.now.slots) (length self.now.literals.starts.now) (length self.now.targets.starts.now) state.now.sets i j result.sets }
         ensures picked { Picked state.now.sets (length self.now.literals.starts.now) (length self.now.targets.starts.now) state.now.picks → Picked result.sets (length self.now.literals.starts.now) (length self.now.targets.starts.now) result.picks }
         ensures fewer { pick state.now.picks i ≡ None → undone result.picks < undone state.now.picks }
+        ensures clear { (gone : List ℕ) → left state.now.sets i j ≡ 1 → Clear gone state.now.sets (length self.now.literals.starts.now) (length self.now.targets.starts.now) state.now.picks → Clear gone result.sets (length self.now.literals.starts.now) (length self.now.targets.starts.now) result.picks }
     {
         let mut sets = state.sets;
         narrow(&mut sets[i], j, self.targets.len());
-        let mut queue = BitSet::<4>::new();
-        queue.include(i);
+        let mut queue = BitSet::<64>::new();
+        self.enqueue(i, &mut queue);
         self.prune(&mut sets, queue);
         let mut picks = state.picks;
         picks[i] = Some(j as u16);

@@ -8,6 +8,8 @@ use std::alloc::AllocError;
 pub struct Slot<const N: usize> {
     pub literal: usize,
     pub variable: u16,
+    // The slot before this one with the same variable.
+    pub before: Option<usize>,
     pub labels: [u16; N],
     ghost sized: { length labels ≡ N },
 }

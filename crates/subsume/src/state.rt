@@ -9,8 +9,8 @@ use super::table::Candidates;
 
 #[derive(Drop)]
 pub struct State<const N: usize> {
-    pub sets: Candidates,
+    pub sets: Candidates<N>,
     pub picks: [Option<u16>; N],
-    ghost rows: { length sets ≡ 256 },
+    ghost rows: { length sets ≡ N },
     ghost sized: { length picks ≡ N },
 }

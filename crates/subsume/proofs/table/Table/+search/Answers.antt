@@ -4,18 +4,9 @@ use Rattle.bounded.specs.Elems.{elems}
 use Rattle.subsume.specs.Bits.{bit_at}
 use Rattle.subsume.specs.Solving.{Hopeful}
 use Rattle.subsume.proofs.Pruning.{row-read}
-use Rattle.subsume.proofs.Searching.{tried, decided, out_none, out-more, out-all, gone}
+use Rattle.subsume.proofs.Searching.{tried, out_none, out-more, out-all, gone}
 use Rattle.subsume.proofs.table.Table.+search.Goals as goal
-use Rattle.subsume.proofs.table.Table.+search.Goals.{else-test-via-then-test+else-search, else-test-via-else-test}
-
-pub returns-in_default : goal.returns-in_default
-returns-in_default g t c =
-    let z = c.args.self.now in
-    let a = z.literals in
-    let b = z.targets in
-    let made = c.settle.new.state in
-    let d = decided a.nodes.now a.starts.now b.nodes.now b.starts.now made.sets made.picks c.settle.ensures.picked c.in_default.ensures c.check.result c.check.ensures in
-    record { found = d.0; none = λ e h. d.1 e (subst (Hopeful a.nodes.now a.starts.now b.nodes.now b.starts.now) (sym c.settle.ensures.same) h) }
+use Rattle.subsume.proofs.table.Table.+search.Goals.{then-test+in_default-search, else-test}
 
 pub loop-j-init : goal.loop-j-init
 loop-j-init g t c =
@@ -35,9 +26,9 @@ loop-j-preserved g t c =
     let inside = c.in-Some.ensures.0 in
     let row = row-read made.sets i c.index-state-i.result (omega (arith, inside, z.few.0, z.few.2, made.rows)) in
     out-more N S M T made.sets i j c.loop-j.invariant
-    (elim c.else-test.branch [
-      | else-test-via-then-test+else-search w ↦ λ h e. w.search.ensures.none w.if-search.false (tried N S M T (elems z.slots) made.sets w.take.result.sets i j z.linked w.take.ensures.taken h e)
-      | else-test-via-else-test w ↦ gone N S M T made.sets i j inside (λ x. both_ways _ w.if-test.false (c.test.ensures.1 (sym (ap (λ ws. bit_at ws j) row) ∙ x)))
+    (elim c.if-test.branch [
+      | then-test+in_default-search w ↦ λ h e. w.search.ensures.none w.in_default-search.is (tried N S M T (elems z.slots) made.sets w.take.result.sets i j z.linked w.take.ensures.taken h e)
+      | else-test w ↦ gone N S M T made.sets i j inside (λ x. both_ways _ w.if-test.false (c.test.ensures.1 (sym (ap (λ ws. bit_at ws j) row) ∙ x)))
     ])
 
 pub returns-clause-none : goal.returns-clause-none

@@ -6,4 +6,4 @@ use Rattle.subsume.proofs.table.Table.prune.Goals as goal
 pub loop-preserved : goal.loop-preserved
 loop-preserved g c =
     let t = c.args.self.now in
-    pruned-then (elems t.slots) (length t.literals.starts.now) (length t.targets.starts.now) c.args.sets.now c.loop.sets c.revise_literal.new.sets c.loop.invariant c.revise_literal.ensures
+    pruned-then (elems t.slots) (length t.literals.starts.now) (length t.targets.starts.now) c.args.sets.now c.loop.sets c.revise.new.sets c.loop.invariant c.revise.ensures

@@ -1,5 +1,0 @@
-use Rattle.generaliser.proofs.Whole.{whole}
-use Rattle.generaliser.proofs.temp.Goals as goal
-
-pub returns : goal.returns
-returns c = whole

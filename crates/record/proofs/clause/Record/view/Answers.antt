@@ -1,0 +1,15 @@
+use Rattle.std.proofs.Common.{length, sym, subst, ap, arith}
+use Rattle.term.specs.Coding.{Whole}
+use Rattle.term.proofs.Codings.{whole-all, length-codes}
+use Rattle.record.specs.Reads.{Inside}
+use Rattle.record.specs.Records.{literals}
+use Rattle.clauses.proofs.Beginnings.{inside-begins}
+use Rattle.record.proofs.clause.Record.view.Goals as goal
+
+pub invariant_of-result : goal.invariant_of-result
+invariant_of-result c =
+    let ls = literals c.args.self.now in
+    let nodes = c.nodes.result.now in
+    let same = c.nodes.ensures.value in
+    let inside = subst (Inside (length nodes)) (sym c.starts.ensures) (inside-begins 0 (length nodes) ls (omega (arith, ap length same, length-codes ls))) in
+    record { whole = subst Whole (sym same) (whole-all ls); inside = λ i h. inside i 0 h }

@@ -1,0 +1,89 @@
+use Rattle.std.proofs.Common.{ℕ, ◌<◌, None, length, get_or, inl, inr, refl, sym, ap, ap₂, ◌∙◌, arith, rules}
+use Rattle.std.proofs.lemmas.List.{get_or-take, length-take-le}
+use Rattle.term.specs.Coding.{word_at}
+use Rattle.term.specs.Words.{sub}
+use Rattle.subsume.specs.declared.view.View.{View}
+use Rattle.subsume.specs.Meeting.{Reached}
+use Rattle.subsume.specs.Solving.{Gives}
+use Rattle.subsume.proofs.Walking.{some_inside, reached-first, reached-ruled, reached-last, reached-inside, reached-gives, reached-on}
+use Rattle.subsume.proofs.table.Table.add_literal.Given.{Over}
+use Rattle.subsume.proofs.table.Table.add_literal.Goals as goal
+use Rattle.subsume.proofs.table.Table.add_literal.Goals.{in-Variable, in_default, After-advance-arg-1}
+
+pub loop-p-init : goal.loop-p-init
+loop-p-init g c =
+    let v = c.args.self.now.targets in
+    record {
+      literals = refl;
+      targets = refl;
+      front = λ j h. reached-first c.literal-literal.result v j h _ (get_or-take c.len.result c.begin-front.result j None (omega (arith, c.len.ensures, h)) ∙ c.begin-front.ensures.begun j h);
+    }
+
+pub add_variable-requires : goal.add_variable-requires
+add_variable-requires g c =
+    let l = c.args.self.now.literals in
+    let t = c.args.self.now.targets in
+    let u = c.literal-literal.result in
+    let same = ap₂ word_at c.literal-literal.ensures.nodes c.literal-literal.ensures.start in
+    let long = length-take-le c.len.result c.begin-front.result (omega (arith, c.len.ensures, c.begin-front.ensures.size, c.args.self.now.few.1)) in
+    let gives : Gives l.nodes.now l.starts.now t.nodes.now t.starts.now c.args.i c.in-Variable.x c.loop-p.at = λ j h.
+    let r = reached-gives u t j h c.loop-p.p c.end-p-end.result c.end-p-end.ensures c.loop-p-test.true c.in-Variable.x c.in-Variable.is _ (c.loop-p.invariant.front j h) in (
+      λ q s. let p = r.0 q s in (p.0, λ θ y. p.1 θ (ap (sub θ) same ∙ y)),
+      λ s θ y. r.1 s θ (ap (sub θ) same ∙ y),
+    ) in
+    let literals = c.loop-p.invariant.literals in
+    let targets = c.loop-p.invariant.targets in (
+      search rules,
+      (omega (arith, c.requires, ap (λ (v : View). length v.starts.now) literals), (omega (arith, c.loop-p.auto.at, long, c.len.ensures, ap (λ (v : View). length v.starts.now) targets), rw (literals, targets) gives)),
+    )
+
+-- where the walk stands after the variable
+ruled : (g : Over) (c : After-advance-arg-1 g) (j : ℕ) → j < length c.args.self.now.targets.starts.now
+    → Reached c.literal-literal.result.nodes.now c.literal-literal.result.start c.loop-p.p c.args.self.now.targets.nodes.now (get_or c.args.self.now.targets.starts.now j 0) (get_or c.match-node.at j None)
+ruled g c j h =
+    let u = c.literal-literal.result in
+    let t = c.args.self.now.targets in
+    let i = c.args.i in
+    let kept = c.loop-p.invariant in
+    let one = ap₂ word_at c.literal-literal.ensures.nodes c.literal-literal.ensures.start ∙ sym (ap (λ (v : View). word_at v.nodes.now (get_or v.starts.now i 0)) kept.literals) in
+    let other = ap (λ (v : View). word_at v.nodes.now (get_or v.starts.now j 0)) kept.targets in
+    let inside : j < length c.loop-p.self.targets.starts.now = omega (arith, h, ap (λ (v : View). length v.starts.now) kept.targets) in
+    reached-ruled u t j h c.loop-p.p (get_or c.loop-p.at j None) (get_or c.match-node.at j None) (kept.front j h)
+    (elim c.match-node.branch [
+      | in-Variable w ↦
+          let is = ap (λ at. get_or at j None) w.at-is in
+          elim (w.add_variable.ensures.ruled j inside) [
+            | inl s ↦ inl (is ∙ s)
+            | inr r ↦ inr (is ∙ r.0, λ θ y. r.1 θ (sym (ap (sub θ) one) ∙ y ∙ sym other))
+          ]
+      | in_default w ↦ inl (ap (λ at. get_or at j None) w.at-is)
+    ])
+
+pub advance-requires : goal.advance-requires
+advance-requires g c j q s =
+    let u = c.literal-literal.result in
+    let t = c.args.self.now.targets in
+    let long = length-take-le c.len.result c.begin-front.result (omega (arith, c.len.ensures, c.begin-front.ensures.size, c.args.self.now.few.1)) in
+    let h : j < length t.starts.now = omega (arith, some_inside c.match-node.at j q s, c.match-node.auto.at, c.loop-p.auto.at, long, c.len.ensures) in
+    reached-inside u t j h c.loop-p.p c.end-p-end.result c.end-p-end.ensures c.loop-p-test.true _ (ruled g c j h) q s
+
+pub loop-p-preserved : goal.loop-p-preserved
+loop-p-preserved g c = record {
+  literals = elim c.match-node.branch [
+    | in-Variable w ↦ ap (λ t. t.literals) w.self-is ∙ w.add_variable.ensures.same.0 ∙ c.loop-p.invariant.literals
+    | in_default w ↦ ap (λ t. t.literals) w.self-is ∙ c.loop-p.invariant.literals
+  ];
+  targets = elim c.match-node.branch [
+    | in-Variable w ↦ ap (λ t. t.targets) w.self-is ∙ w.add_variable.ensures.same.1 ∙ c.loop-p.invariant.targets
+    | in_default w ↦ ap (λ t. t.targets) w.self-is ∙ c.loop-p.invariant.targets
+  ];
+  front = λ j h. reached-on c.literal-literal.result c.args.self.now.targets j h c.loop-p.p c.end-p-end.result c.end-p-end.ensures c.loop-p-test.true c.match-node.node
+      (elim c.match-node.branch [ in-Variable w ↦ w.in-Variable.is ∙ sym w.node-is | in_default w ↦ sym w.node-is ])
+      _ _ (ruled g (goal.at.loop-p-preserved g c).After-advance-arg-1 j h) (c.advance.ensures j);
+}
+
+pub returns-clause-left : goal.returns-clause-left
+returns-clause-left g c j h θ y =
+    let same = ap₂ word_at c.literal-literal.ensures.nodes c.literal-literal.ensures.start in
+    let q = reached-last c.literal-literal.result c.args.self.now.targets j h c.loop-p.p _ (c.loop-p.invariant.front j h) θ (ap (sub θ) same ∙ y) in
+    c.met.ensures j q.0 q.1

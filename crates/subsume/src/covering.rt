@@ -1,0 +1,20 @@
+// Whether one clause covers another (subsumes it).
+ghost use Rattle.std.specs.Prelude.{◌≤◌, length, Decides};
+ghost use Rattle.term.specs.Matched.{Below};
+ghost use Rattle.clauses.specs.Clauses.{Covers, literals_at};
+
+use super::table::Table;
+use super::view::View;
+
+impl View<'_> {
+    // Whether some substitution turns each literal into a literal of the other. N bounds the literals of each, K the slots that
+    // help the search, and V is more than the number of any variable.
+    pub fn covers<const N: usize, const K: usize, const V: usize>(self, other: View<'_>) -> bool
+        requires few { (length self.starts.now ≤ N) × (length other.starts.now ≤ N) × (N ≤ 256) × (K ≤ 65536) }
+        requires variables { Below V self.nodes.now × (V ≤ 65536) }
+        ensures { Decides result (Covers (literals_at self.entry.nodes.now self.entry.starts.now) (literals_at other.entry.nodes.now other.entry.starts.now)) }
+    {
+        let table = Table::<N, K>::link(self, other);
+        table.solvable::<V>(table.start())
+    }
+}

@@ -1,0 +1,4 @@
+mod Occurring
+mod Noting
+mod Noted
+pub mod Inside

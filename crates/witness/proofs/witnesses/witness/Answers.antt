@@ -1,0 +1,23 @@
+use Rattle.std.proofs.Common.{arith}
+use Rattle.bounded.specs.Elems.{elems}
+use Rattle.record.specs.Records.{literals}
+use Rattle.record.specs.Held.{held}
+use Rattle.witness.proofs.Noted.{witness-noted, witness-beyond}
+use Rattle.witness.proofs.witnesses.witness.Goals as goal
+
+pub returns : goal.returns
+returns c =
+    let rule = literals c.args.rule.now in
+    let mount = literals c.args.mount.now in
+    let choice = elems c.in-Some.choice in
+    let before = c.args.list.now in
+    let after = c.note_all.new.list in
+    let n = c.count_variables-count.result in
+    let order = (held c.args.rule.now).order in
+    let all = c.count_variables-count.ensures in
+    let made = rw c.as_slice.ensures.value at c.note_all.ensures in (
+      all,
+      witness-noted rule mount choice before after n order all c.in-Some.ensures made (omega arith) (omega arith),
+      witness-beyond rule mount choice before after n order all c.in-Some.ensures made,
+      c.note_all.auto.list,
+    )
