@@ -8,7 +8,8 @@ use Rattle.clauses.specs.Clauses.{Covers}
 use Rattle.clauses.specs.Reduction.{Tidies, drops, keeps}
 use Rattle.clauses.proofs.Reductions.{after-drop, after-keep}
 use Rattle.subsume.specs.Bits.{bit_at}
-use Rattle.reduction.specs.Progress.{Outside, Progress}
+use Rattle.subsume.specs.FirstChoices.{Outside}
+use Rattle.reduction.specs.Progress.{Progress}
 
 module _ (C : List Word) (i : ℕ) (kept : List Word) (lt : i < length C) where
   -- the clause in hand, and what is left of it without the literal in hand
@@ -27,7 +28,7 @@ module _ (C : List Word) (i : ℕ) (kept : List Word) (lt : i < length C) where
   pushed : (kept ++ literal ∷ []) ++ drop (i + 1) C ≡ kept ++ literal ∷ drop (i + 1) C
   pushed = append_assoc kept (literal ∷ []) (drop (i + 1) C)
 
-  removed : remove hand (length kept) ≡ rest
+  pub removed : remove hand (length kept) ≡ rest
   removed =
       ap (λ (l : List Word). remove l (length kept)) hand-is
       ∙ ap₂ (λ (l m : List Word). l ++ m) (take_at kept (literal ∷ drop (i + 1) C) (length kept) refl)
@@ -37,7 +38,7 @@ module _ (C : List Word) (i : ℕ) (kept : List Word) (lt : i < length C) where
   room : length kept < length hand
   room = omega (arith, length-append kept (drop i C), length-drop i C)
 
-  hand-pushed : (kept ++ literal ∷ []) ++ drop (i + 1) C ≡ hand
+  pub hand-pushed : (kept ++ literal ∷ []) ++ drop (i + 1) C ≡ hand
   hand-pushed = pushed ∙ sym hand-is
 
   module _ (gone : List ℕ) (p : Progress C i kept gone) where

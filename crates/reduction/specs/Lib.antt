@@ -1,3 +1,4 @@
 pub mod Progress
 pub mod Compacts
 pub mod Numbers
+pub mod Tidyings

@@ -1,12 +1,9 @@
 -- How far the tidying of a clause has come.
 use Rattle.std.specs.Prelude.{◌≡◌, ℕ, ◌<◌, ◌≤◌, List, ◌++◌, length, drop, slice_index_or, Contains}
 use Rattle.term.specs.Words.{Word}
+use Rattle.clauses.specs.Clauses.{Covers}
 use Rattle.clauses.specs.Reduction.{Tidies}
 use Rattle.subsume.specs.Bits.{bit_at}
-
--- w stands in C at a place that is not in the set
-abbrev pub Outside : (gone : List ℕ) → List Word → Word → Type 0
-Outside gone C w = (j : ℕ) × (j < length C) × (bit_at gone j ≡ 0) × (slice_index_or C j w ≡ w)
 
 -- the literals before i have had their turn; these of them are kept, and the others are gone
 pub record Progress (C : List Word) (i : ℕ) (kept : List Word) (gone : List ℕ) : Type 0 where
@@ -16,3 +13,8 @@ pub record Progress (C : List Word) (i : ℕ) (kept : List Word) (gone : List �
   pub early : (j : ℕ) (d : Word) → j < i → bit_at gone j ≡ 0 → Contains kept (slice_index_or C j d)
   pub stays : (w : Word) → Contains kept w → (j : ℕ) × (j < i) × (bit_at gone j ≡ 0) × (slice_index_or C j w ≡ w)
   pub late : (j : ℕ) → i ≤ j → bit_at gone j ≡ 0
+
+-- D covers I, and the literals of I are those of C at some places of the set that are not gone
+pub record Image (C D : List Word) (mapped gone : List ℕ) (I : List Word) : Type 0 where
+  pub covered : Covers D I
+  pub places : (w : Word) → Contains I w → (j : ℕ) × (j < length C) × (bit_at mapped j ≡ 1) × (bit_at gone j ≡ 0) × (slice_index_or C j w ≡ w)

@@ -4,6 +4,7 @@
 mod compact;
 mod numbering;
 mod renumber;
+mod tidying;
 
 pub use compact::Compact;
 pub use renumber::renumbered_clause;

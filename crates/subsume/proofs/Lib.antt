@@ -9,3 +9,4 @@ mod Links
 pub mod Choosing
 mod Firsts
 mod Walking
+pub mod Avoiding

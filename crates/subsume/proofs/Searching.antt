@@ -23,7 +23,7 @@ module _ (N : List Node) (S : List ℕ) (M : List Node) (T : List ℕ) where
   out-more sets i j o n h l = ⊎_elim (λ (e : h.0 i ≡ j). n h e) (λ e. o h (omega (arith, e))) (cases_eq (h.0 i) j)
 
   -- a choice that works agrees with the table
-  fits-works : {C : ℕ} (slots : List (Slot C)) (f : ℕ → ℕ) → Linked N S M T slots → ((i : ℕ) → i < length S → f i < length T)
+  pub fits-works : {C : ℕ} (slots : List (Slot C)) (f : ℕ → ℕ) → Linked N S M T slots → ((i : ℕ) → i < length S → f i < length T)
       → (w : Works N S M T f) → Fits slots f (λ x. label_of (w.0 x))
   fits-works slots f linked inside w s h =
       let l = linked s h in

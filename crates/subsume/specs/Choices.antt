@@ -123,3 +123,9 @@ pub record Clear (gone : List ℕ) (sets : List (BitSet 4)) (m n : ℕ) (picks :
 -- none of the choices is in the set
 abbrev pub Avoids : (gone : List ℕ) (m : ℕ) → List (Option ℕ) → Type 0
 Avoids gone m picks = (i : ℕ) → i < m → bit_at gone (picked picks i) ≡ 0
+
+-- of the first n targets, just those in the set were struck out
+pub record Removed (gone : List ℕ) (before after : List ℕ) (n : ℕ) : Type 0 where
+  pub outside : (l : ℕ) → n ≤ l → bit_at after l ≡ bit_at before l
+  pub kept : (j : ℕ) → j < n → bit_at before j ≡ 1 → bit_at gone j ≡ 0 → bit_at after j ≡ 1
+  pub fewer : (j : ℕ) → j < n → bit_at after j ≡ 1 → (bit_at before j ≡ 1) × (bit_at gone j ≡ 0)

@@ -63,3 +63,7 @@ module _ (N : List Node) (S : List ℕ) (M : List Node) (T : List ℕ) where
   -- every choice that works is left
   abbrev pub Spared : List (BitSet 4) → Type 0
   Spared sets = (f : ℕ → ℕ) → ((i : ℕ) → i < length S → f i < length T) → Works f → Among sets (length S) (length T) f
+
+  -- each choice that works and takes none of a set is left
+  abbrev pub SparedOutside : (gone : List ℕ) → List (BitSet 4) → Type 0
+  SparedOutside gone sets = (f : ℕ → ℕ) → ((i : ℕ) → i < length S → (f i < length T) × (bit_at gone (f i) ≡ 0)) → Works f → Among sets (length S) (length T) f

@@ -7,6 +7,7 @@ mod choice;
 mod covering;
 mod link;
 mod meeting;
+mod outside;
 mod prune;
 mod search;
 mod slot;
@@ -14,4 +15,7 @@ mod state;
 mod table;
 mod view;
 
+pub use bits::BitSet;
+pub use state::State;
+pub use table::Table;
 pub use view::View;

@@ -34,6 +34,7 @@ impl<const N: usize, const K: usize> Table<'_, N, K> {
     pub fn start(&self) -> State<N>
         ensures picked { Picked result.sets (length self.now.literals.starts.now) (length self.now.targets.starts.now) result.picks }
         ensures spared { Spared self.now.literals.nodes.now self.now.literals.starts.now self.now.targets.nodes.now self.now.targets.starts.now result.sets }
+        ensures none { (i : ℕ) → pick result.picks i ≡ None }
     {
         let mut sets = self.candidates;
         let mut queue = BitSet::<64>::new();

@@ -1,0 +1,76 @@
+-- The turn of a literal, by where it begins.
+use Rattle.std.proofs.Common.{◌≡◌, ◌≢◌, ℕ, ◌+◌, ◌<◌, ◌≤◌, List, [], ◌∷◌, ◌++◌, length, get_or, take, drop, map, All, Contains, sym, refl, ap, ◌∙◌, subst, ⊎_elim, length-append, arith}
+use Rattle.std.proofs.lemmas.Bool.{cases_eq}
+use Rattle.std.proofs.lemmas.List.{get_or-map, length-map, map-append, length-take, length_push}
+use Rattle.term.specs.Coding.{word_at}
+use Rattle.term.specs.Words.{Word, var, sub}
+use Rattle.term.specs.declared.node.Node.{Node}
+use Rattle.clauses.specs.Clauses.{Covers, literals_at}
+use Rattle.clauses.specs.Reduction.{Tidies}
+use Rattle.clauses.proofs.Reductions.{tidies-front}
+use Rattle.subsume.specs.Bits.{bit_at}
+use Rattle.subsume.specs.Choices.{picked}
+use Rattle.subsume.specs.FirstChoices.{Outside, ChoosesOutside}
+use Rattle.reduction.specs.Progress.{Progress, Image}
+use Rattle.reduction.specs.Tidyings.{Standing, Taken, TooMany}
+use Rattle.reduction.proofs.Steps.{hand, rest, literal, hand-pushed, keep-step, drop-step}
+use Rattle.reduction.proofs.Images.{free-drops, free-image, needed-stays, spare-drops, spare-image}
+
+module _ (nodes : List Node) (S : List ℕ) (starts : List ℕ) (i : ℕ) (h : i < length S) (gone mapped : List ℕ) (I : List Word) where
+  abbrev C : List Word
+  C = literals_at nodes S
+
+  abbrev kept : List Word
+  kept = literals_at nodes starts
+
+  lt : i < length C
+  lt = omega (arith, length-map S (word_at nodes), h)
+
+  module _ (p : Progress C i kept gone) (m : Image C (kept ++ drop i C) mapped gone I) (after : List ℕ) (here : bit_at after i ≡ 1) (others : (j : ℕ) → (j ≢ i) → bit_at after j ≡ bit_at gone j) where
+    -- a literal into which none was turned is dropped
+    pub free-progress : bit_at mapped i ≡ 0 → Progress C (i + 1) kept after
+    free-progress n = drop-step C i kept lt gone p after here others (free-drops C i kept lt gone p mapped I m after here others n)
+
+    pub free-stays : bit_at mapped i ≡ 0 → Image C (kept ++ drop (i + 1) C) mapped after I
+    free-stays n = free-image C i kept lt gone p mapped I m after here others n
+
+    -- a literal without which some choice works is dropped
+    pub spare-progress : (choice : ℕ → ℕ) → ChoosesOutside after I C choice → Progress C (i + 1) kept after
+    spare-progress choice c = drop-step C i kept lt gone p after here others (spare-drops C i kept lt gone p mapped I m after here others choice c)
+
+    pub spare-next : (choice : ℕ → ℕ) → ChoosesOutside after I C choice → (next : List ℕ) (J : List Word) → Taken C (length I) choice next J → Image C (kept ++ drop (i + 1) C) next after J
+    spare-next choice c next J t = spare-image C i kept lt gone p mapped I m after here others choice c next J t.all t.only
+
+    -- and any other is kept
+    module _ (back : List ℕ) (out : bit_at back i ≡ 0) (same : (j : ℕ) → (j ≢ i) → bit_at back j ≡ bit_at after j) (none : (θ : ℕ → Word) → All (λ l. Outside after C (sub θ l)) I → ⊥) where
+      bits : (j : ℕ) → bit_at back j ≡ bit_at gone j
+      bits j = ⊎_elim
+          (λ (e : j ≡ i). ap (bit_at back) e ∙ out ∙ sym (p.late i (omega arith)) ∙ ap (bit_at gone) (sym e))
+          (λ n. same j n ∙ others j n) (cases_eq j i)
+
+      needed-progress : Progress C (i + 1) (kept ++ literal C i kept lt ∷ []) back
+      needed-progress = keep-step C i kept lt gone p back bits (needed-stays C i kept lt gone p mapped I m after here others none)
+
+      more : kept ++ literal C i kept lt ∷ [] ≡ literals_at nodes (starts ++ get_or S i 0 ∷ [])
+      more = ap (λ (w : Word). kept ++ w ∷ []) (get_or-map (word_at nodes) S i 0 (var 0) h) ∙ sym (map-append (word_at nodes) starts (get_or S i 0 ∷ []))
+
+      pub needed-more : Progress C (i + 1) (literals_at nodes (starts ++ get_or S i 0 ∷ [])) back
+      needed-more = subst (λ (l : List Word). Progress C (i + 1) l back) more needed-progress
+
+      pub needed-image : Image C (literals_at nodes (starts ++ get_or S i 0 ∷ []) ++ drop (i + 1) C) mapped back I
+      needed-image =
+          let whole : literals_at nodes (starts ++ get_or S i 0 ∷ []) ++ drop (i + 1) C ≡ kept ++ drop i C =
+          ap (λ (l : List Word). l ++ drop (i + 1) C) (sym more) ∙ hand-pushed C i kept lt in
+          record {
+            covered = subst (λ (D : List Word). Covers D I) (sym whole) m.covered;
+            places = λ w c. let s = m.places w c in (s.0, s.1, s.2, bits s.0 ∙ s.3, s.4);
+          }
+
+      -- with 16 kept before it
+      pub needed-full : length starts ≡ 16 → TooMany C
+      needed-full full R t =
+          let P = needed-progress in
+          let K = kept ++ literal C i kept lt ∷ [] in
+          let long : length K ≡ 17 = omega (arith, length_push kept (literal C i kept lt), length-map starts (word_at nodes), full) in
+          let front = tidies-front (P.back R t) (omega (arith, length-append K (drop (i + 1) C))) in
+          omega (arith, ap length front, long, length-take (length K) R, length-take (length K) (K ++ drop (i + 1) C), length-append K (drop (i + 1) C))

@@ -1,0 +1,137 @@
+// Tidying: drops the literals that the others make needless.
+ghost use Rattle.std.specs.Prelude.{◌≡◌, ℕ, ◌<◌, ◌≤◌, None, length, All};
+ghost use Rattle.bounded.specs.Elems.{elems};
+ghost use Rattle.clauses.specs.Clauses.{literals_at};
+ghost use Rattle.subsume.specs.Choices.{Picked, pick, picked};
+ghost use Rattle.subsume.specs.Solving.{Spared};
+ghost use Rattle.term.specs.Matched.{Below};
+ghost use Rattle.reduction.specs.Tidyings.{Inside, Standing, Turned, Passed, Taken};
+
+use bounded::Bounded;
+use subsume::{BitSet, State, Table, View};
+
+// How many literals a clause may have, how many slots help the search, and how many variables a clause may have.
+const LITERALS: usize = 256;
+
+const SLOTS: usize = 1024;
+
+const VARIABLES: usize = 4096;
+
+// What has been decided: where the literals begin that are kept, and which of all are gone.
+#[derive(Clone, Copy)]
+pub(super) struct Decided {
+    pub kept: Bounded<usize, 16>,
+    pub gone: BitSet<4>,
+}
+
+// What came of the turn of a literal.
+pub(super) enum Turn {
+    // It was dropped or kept, and the table is right for the next one.
+    On,
+    // It must be kept, and there is no room.
+    Full,
+    // It was dropped, since these choices take each literal of the table to one that is not gone.
+    Shrunk([Option<u16>; LITERALS]),
+}
+
+impl Decided {
+    // Decides on literal `i`: it is dropped where the literals that are left cover the clause without it.
+    fn turn(
+        &mut self,
+        clause: View<'_>,
+        table: &Table<'_, LITERALS, SLOTS>,
+        start: &State<LITERALS>,
+        mapped: &BitSet<4>,
+        i: usize,
+    ) -> Turn
+        requires literal { i < length clause.starts.now }
+        requires targets { table.now.targets ≡ clause }
+        requires variables { Below VARIABLES table.now.literals.nodes.now }
+        requires picked { Picked start.now.sets (length table.now.literals.starts.now) (length table.now.targets.starts.now) start.now.picks }
+        requires none { (k : ℕ) → pick start.now.picks k ≡ None }
+        requires spared { Spared table.now.literals.nodes.now table.now.literals.starts.now table.now.targets.nodes.now table.now.targets.starts.now start.now.sets }
+        requires inside { Inside (length clause.nodes.now) self.old }
+        requires standing { Standing clause.nodes.now (literals_at clause.nodes.now clause.starts.now) mapped.now.words (literals_at table.now.literals.nodes.now table.now.literals.starts.now) i self.old }
+        ensures inside { Inside (length clause.entry.nodes.now) self.new }
+        ensures turned { Turned clause.entry.nodes.now (literals_at clause.entry.nodes.now clause.entry.starts.now) mapped.now.words (literals_at table.now.literals.nodes.now table.now.literals.starts.now) i result self.new }
+    {
+        self.gone.include(i);
+        if !mapped.test(i) {
+            return Turn::On;
+        }
+        if let Some(picks) = table.choose_outside::<VARIABLES>(start, &self.gone) {
+            return Turn::Shrunk(picks);
+        }
+        self.gone.exclude(i);
+        match self.kept.push(clause.starts[i]) {
+            Ok(()) => Turn::On,
+            Err(_) => Turn::Full,
+        }
+    }
+}
+
+// How a pass over the literals ends.
+pub(super) enum Outcome {
+    // Each has had its turn.
+    Whole,
+    // More must be kept than there is room for.
+    Full,
+    // The literals before `next` have had their turn, and these choices were found at the last of them.
+    Shrunk {
+        next: usize,
+        picks: [Option<u16>; LITERALS],
+    },
+}
+
+// Gives each literal from `at` on its turn, until one is dropped by choices that are new. `image` is what the clause was
+// last turned into, at the places in `mapped`.
+fn pass(
+    clause: View<'_>,
+    image: View<'_>,
+    mapped: &BitSet<4>,
+    at: usize,
+    decided: &mut Decided,
+) -> Outcome
+    requires few { (length clause.starts.now ≤ LITERALS) × (length image.starts.now ≤ LITERALS) }
+    requires same { image.nodes.now ≡ clause.nodes.now }
+    requires variables { Below VARIABLES clause.nodes.now }
+    requires inside { Inside (length clause.nodes.now) decided.old }
+    requires standing { Standing clause.nodes.now (literals_at clause.nodes.now clause.starts.now) mapped.now.words (literals_at image.nodes.now image.starts.now) at decided.old }
+    ensures inside { Inside (length clause.entry.nodes.now) decided.new }
+    ensures passed { Passed clause.entry.nodes.now (literals_at clause.entry.nodes.now clause.entry.starts.now) (literals_at image.entry.nodes.now image.entry.starts.now) at result decided.new }
+{
+    let table = Table::<LITERALS, SLOTS>::link(image, clause);
+    let start = table.start();
+    for i in at..clause.len() {
+        match decided.turn(clause, &table, &start, mapped, i) {
+            Turn::On => {}
+            Turn::Full => return Outcome::Full,
+            Turn::Shrunk(picks) => return Outcome::Shrunk { next: i + 1, picks },
+        }
+    }
+    Outcome::Whole
+}
+
+// The literals that the first `count` choices take: where they begin, and their places.
+fn targets(
+    clause: View<'_>,
+    picks: &[Option<u16>; LITERALS],
+    count: usize,
+) -> (Bounded<usize, LITERALS>, BitSet<4>)
+    requires few { (length clause.starts.now ≤ LITERALS) × (count ≤ LITERALS) }
+    requires chosen { (k : ℕ) → k < count → picked picks.now k < length clause.starts.now }
+    ensures inside { All (λ s. s < length clause.entry.nodes.now) (elems result.0) }
+    ensures taken { Taken (literals_at clause.entry.nodes.now clause.entry.starts.now) count (picked picks.now) result.1.words (literals_at clause.entry.nodes.now (elems result.0)) }
+{
+    let mut image = Bounded::new(0);
+    let mut mapped = BitSet::<4>::new();
+    for pick in &picks[..count] {
+        let j = pick.unwrap_or(0) as usize;
+        if !mapped.test(j) {
+            mapped.include(j);
+            let _ = image.push(clause.starts[j]);
+        }
+    }
+    (image, mapped)
+}
+
