@@ -8,3 +8,4 @@ mod tidying;
 
 pub use compact::Compact;
 pub use renumber::renumbered_clause;
+pub use tidying::tidied;

@@ -2,10 +2,11 @@
 ghost use Rattle.std.specs.Prelude.{◌≡◌, ℕ, ◌<◌, ◌≤◌, None, length, All};
 ghost use Rattle.bounded.specs.Elems.{elems};
 ghost use Rattle.clauses.specs.Clauses.{literals_at};
+ghost use Rattle.subsume.specs.Bits.{bit_at};
 ghost use Rattle.subsume.specs.Choices.{Picked, pick, picked};
 ghost use Rattle.subsume.specs.Solving.{Spared};
 ghost use Rattle.term.specs.Matched.{Below};
-ghost use Rattle.reduction.specs.Tidyings.{Inside, Standing, Turned, Passed, Taken};
+ghost use Rattle.reduction.specs.Tidyings.{Inside, Standing, Turned, Passed, Taken, Leaves};
 
 use bounded::Bounded;
 use subsume::{BitSet, State, Table, View};
@@ -133,5 +134,49 @@ fn targets(
         }
     }
     (image, mapped)
+}
+
+// Where the literals begin that tidying leaves of a clause; or none, where it leaves more than 16. Each literal from the first
+// to the last is dropped where those still kept cover what is left of them without it.
+pub fn tidied(clause: View<'_>) -> Option<Bounded<usize, 16>>
+    requires few { length clause.starts.now ≤ LITERALS }
+    requires variables { Below VARIABLES clause.nodes.now }
+    ensures { Leaves clause.entry.nodes.now (literals_at clause.entry.nodes.now clause.entry.starts.now) result }
+{
+    let mut decided = Decided {
+        kept: Bounded::new(0),
+        gone: BitSet::new(),
+    };
+    let (mut image, mut mapped) = whole(clause);
+    let mut at = 0;
+    loop {
+        let view = View {
+            nodes: clause.nodes,
+            starts: image.as_slice(),
+        };
+        match pass(clause, view, &mapped, at, &mut decided) {
+            Outcome::Whole => return Some(decided.kept),
+            Outcome::Full => return None,
+            Outcome::Shrunk { next, picks } => {
+                (image, mapped) = targets(clause, &picks, image.len());
+                at = next;
+            }
+        }
+    }
+}
+
+// All literals of a clause: where they begin, and their places.
+fn whole(clause: View<'_>) -> (Bounded<usize, LITERALS>, BitSet<4>)
+    requires { length clause.starts.now ≤ LITERALS }
+    ensures starts { elems result.0 ≡ clause.entry.starts.now }
+    ensures places { (j : ℕ) → j < length clause.entry.starts.now → bit_at result.1.words j ≡ 1 }
+{
+    let mut starts = Bounded::new(0);
+    let mut places = BitSet::<4>::new();
+    for (j, start) in clause.starts.iter().enumerate() {
+        let _ = starts.push(*start);
+        places.include(j);
+    }
+    (starts, places)
 }
 

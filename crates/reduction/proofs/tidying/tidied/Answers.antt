@@ -1,0 +1,57 @@
+use Rattle.std.proofs.Common.{◌≡◌, ℕ, ◌<◌, List, ◌++◌, length, All, drop, map, sym, ap, ◌∙◌, subst, arith}
+use Rattle.std.proofs.lemmas.List.{length-map, get_or_default}
+use Rattle.std.proofs.lemmas.List.Elements.{All-nil}
+use Rattle.bounded.specs.Elems.{elems}
+use Rattle.clauses.specs.Clauses.{literals_at}
+use Rattle.subsume.specs.Choices.{picked}
+use Rattle.term.specs.Coding.{word_at}
+use Rattle.reduction.specs.Progress.{Progress, Image}
+use Rattle.reduction.specs.Tidyings.{kept, Taken}
+use Rattle.reduction.proofs.Ends.{begun, begun-image, ended}
+use Rattle.reduction.proofs.tidying.tidied.Goals as goal
+
+pub loop-next-init : goal.loop-next-init
+loop-next-init c =
+    let a = c.args.clause in
+    let N = a.nodes.now in
+    let S = a.starts.now in
+    let C = literals_at N S in
+    let gone = c.new-2.result.words in
+    let none = ap (literals_at N) c.new.ensures in
+    let zero = c.new-2.ensures in
+    let mapped = c.whole.result.1.words in
+    record {
+      inside = subst (All (λ s. s < length N)) (sym c.new.ensures) (All-nil (λ s. s < length N));
+      begun = subst (All (λ s. s < length N)) (sym c.whole.ensures.starts) (λ k d h. rw (get_or_default S k d 0 h) (a.inside k h));
+      standing = record {
+        progress = begun C gone (literals_at N (elems c.new.result)) none zero;
+        image = subst (λ (l : List ℕ). Image C (literals_at N (elems c.new.result) ++ drop 0 C) mapped gone (literals_at N l)) (sym c.whole.ensures.starts)
+            (begun-image C gone (literals_at N (elems c.new.result)) none zero mapped (λ j h. c.whole.ensures.places j (omega (arith, length-map S (word_at N), h))));
+      };
+    }
+
+pub returns-in-Whole : goal.returns-in-Whole
+returns-in-Whole c =
+    let a = c.args.clause in
+    let C = literals_at a.nodes.now a.starts.now in
+    let d = c.pass.new.decided in
+    (ended C d.gone.words (kept a.nodes.now d) c.in-Whole.ensures.passed, c.in-Whole.ensures.inside)
+
+pub loop-next-preserved : goal.loop-next-preserved
+loop-next-preserved c =
+    let a = c.args.clause in
+    let N = a.nodes.now in
+    let C = literals_at N a.starts.now in
+    let d = c.pass.new.decided in
+    let passed = c.in-Shrunk.ensures.passed in
+    let mapped = c.targets.result.1.words in
+    let J = literals_at N (elems c.targets.result.0) in
+    let count : c.len.result ≡ length (literals_at N c.as_slice.result.now) = c.len.ensures.value ∙ sym (length-map c.as_slice.result.now (word_at N) ∙ ap length c.as_slice.ensures.value) in
+    record {
+      inside = c.in-Shrunk.ensures.inside;
+      begun = c.targets.ensures.inside;
+      standing = record {
+        progress = passed.2;
+        image = passed.3 mapped J (subst (λ (n : ℕ). Taken C n (picked c.in-Shrunk.picks) mapped J) count c.targets.ensures.taken);
+      };
+    }
