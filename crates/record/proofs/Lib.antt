@@ -8,3 +8,4 @@ pub mod Turns
 pub mod Back
 pub mod Forms
 pub mod Views
+pub mod Reducing

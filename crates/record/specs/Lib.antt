@@ -4,3 +4,4 @@ pub mod Records
 pub mod Reads
 pub mod Held
 pub mod Kind
+pub mod Reductions

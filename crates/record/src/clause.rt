@@ -8,9 +8,10 @@ ghost use Rattle.clauses.specs.Beginnings.{begins};
 use bounded::Bounded;
 use term::Node;
 
-mod covering;
+mod kind;
 mod ops;
 mod packing;
+mod view;
 
 // A clause of at most 16 literals and 256 nodes: no symbol and no predicate has more than 8 places, no literal stands
 // twice, and the variables are numbered from 0 in the order of their first standing. The nodes stand in preorder, one

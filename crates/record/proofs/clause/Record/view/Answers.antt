@@ -4,6 +4,9 @@ use Rattle.term.proofs.Codings.{whole-all, length-codes}
 use Rattle.record.specs.Reads.{Inside}
 use Rattle.record.specs.Records.{literals}
 use Rattle.clauses.proofs.Beginnings.{inside-begins}
+use Rattle.term.specs.Matched.{Below}
+use Rattle.record.specs.Held.{held}
+use Rattle.record.proofs.Views.{literals-seen, clause-below}
 use Rattle.record.proofs.clause.Record.view.Goals as goal
 
 pub invariant_of-result : goal.invariant_of-result
@@ -13,3 +16,11 @@ invariant_of-result c =
     let same = c.nodes.ensures.value in
     let inside = subst (Inside (length nodes)) (sym c.starts.ensures) (inside-begins 0 (length nodes) ls (omega (arith, ap length same, length-codes ls))) in
     record { whole = subst Whole (sym same) (whole-all ls); inside = λ i h. inside i 0 h }
+
+pub returns-clause-literals : goal.returns-clause-literals
+returns-clause-literals c = literals-seen (literals c.args.self.now) c.nodes.result.now c.starts.result.now c.nodes.ensures.value c.starts.ensures
+
+pub returns-clause-variables : goal.returns-clause-variables
+returns-clause-variables c =
+    let r = c.args.self.now in
+    subst (Below 256) (sym c.nodes.ensures.value) (clause-below (literals r) (held r))
