@@ -13,3 +13,4 @@ pub mod Settled
 pub mod Generalisations
 pub mod Numberings
 pub mod Limits
+pub mod Ordered
