@@ -7,6 +7,7 @@ pub mod Reductions
 pub mod Smallest
 pub mod Renamings
 pub mod Each
+pub mod Grown
 pub mod Variations
 pub mod Literals
 pub mod Settled

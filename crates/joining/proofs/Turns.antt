@@ -8,6 +8,7 @@ use Rattle.clauses.specs.Beginnings.{begins}
 use Rattle.clauses.specs.Clauses.{literals_at}
 use Rattle.clauses.specs.Joins.{fit_decided, row, rows, raw}
 use Rattle.clauses.proofs.Each.{size-each}
+use Rattle.clauses.proofs.Grown.{sizes-held}
 use Rattle.subsume.specs.declared.view.View.{View}
 use Rattle.term.specs.Coding.{decode, word_at}
 use Rattle.term.specs.Joined.{mean, Inside}
@@ -18,7 +19,6 @@ use Rattle.term.proofs.Cases.{by-test, by-test-both}
 use Rattle.term.proofs.Pairings.{inside-none, mean-none}
 use Rattle.joining.specs.declared.raw.RawClause.{RawClause}
 use Rattle.joining.specs.Raw.{literals, Added}
-use Rattle.joining.proofs.Grown.{sizes-held}
 use Rattle.joining.proofs.Standing.{literal_at, rest-begun, sum-begun}
 
 -- what a literal gives with those of E, and then the literals C with those of D
