@@ -14,4 +14,5 @@ pub mod Settled
 pub mod Generalisations
 pub mod Numberings
 pub mod Limits
+pub mod Below
 pub mod Ordered
