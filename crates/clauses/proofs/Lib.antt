@@ -7,9 +7,12 @@ pub mod Reductions
 pub mod Smallest
 pub mod Renamings
 pub mod Each
+pub mod Grown
 pub mod Variations
 pub mod Literals
 pub mod Settled
 pub mod Generalisations
 pub mod Numberings
 pub mod Limits
+pub mod Below
+pub mod Ordered

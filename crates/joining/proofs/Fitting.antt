@@ -5,6 +5,7 @@ use Rattle.std.proofs.lemmas.List.Edits.{length-between}
 use Rattle.bounded.specs.Elems.{elems}
 use Rattle.clauses.specs.Clauses.{each}
 use Rattle.clauses.specs.Joins.{Fit, fit_decided, row}
+use Rattle.clauses.proofs.Grown.{each-grown}
 use Rattle.term.specs.Coding.{hd, decode, Whole, word_at, Next}
 use Rattle.term.specs.Joined.{mean, Inside, Fellows, Joined}
 use Rattle.term.specs.Joins.{Table, join}
@@ -18,7 +19,6 @@ use Rattle.term.proofs.Codings.{len-first, word-between, length-code}
 use Rattle.term.proofs.Walked.{root, root-words, root-whole}
 use Rattle.joining.specs.declared.raw.RawClause.{RawClause}
 use Rattle.joining.specs.Raw.{literals, Added}
-use Rattle.joining.proofs.Grown.{each-grown}
 
 fit-nodes : (x y : Node) (r s : List Node) → Whole (x ∷ r) → Whole (y ∷ s) → Fellows x y → Fit (hd (decode (x ∷ r))) (hd (decode (y ∷ s)))
 unfolding decode Whole

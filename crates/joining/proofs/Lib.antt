@@ -1,4 +1,3 @@
-pub mod Grown
 pub mod Standing
 pub mod Fitting
 pub mod Turns

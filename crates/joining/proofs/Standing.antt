@@ -5,11 +5,11 @@ use Rattle.clauses.specs.Beginnings.{begins}
 use Rattle.clauses.specs.Clauses.{each, literals_at}
 use Rattle.clauses.proofs.Beginnings.{length-begins}
 use Rattle.clauses.proofs.Each.{size-each}
+use Rattle.clauses.proofs.Grown.{sizes-held}
 use Rattle.term.specs.Coding.{code, codes, hd, decode, Whole, word_at}
 use Rattle.term.specs.Words.{Word, var, Words, nil, cons, len, size, sizes}
 use Rattle.term.specs.declared.node.Node.{Node}
 use Rattle.term.proofs.Codings.{code-decode, decode-code, length-code}
-use Rattle.joining.proofs.Grown.{sizes-held}
 
 -- the literals that begin there
 from-begins : (us : Words) (front rest : List Node) → literals_at (front ++ (codes us ++ rest)) (begins (length front) us) ≡ each us

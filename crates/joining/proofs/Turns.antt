@@ -1,24 +1,29 @@
 -- Joining the literals of two clauses, one pair after the other.
-use Rattle.std.proofs.Common.{◌≡◌, ℕ, ◌+◌, ◌-◌, ◌*◌, ◌<◌, ◌≤◌, List, [], ◌∷◌, ◌++◌, length, get_or, drop, sum_by, sym, refl, ap, ap₂, ◌∙◌, append_assoc, arith, length-append}
+use Rattle.std.proofs.Common.{◌≡◌, ℕ, ◌+◌, ◌-◌, ◌*◌, ◌<◌, ◌≤◌, List, [], ◌∷◌, ◌++◌, length, get_or, drop, sum_by, sym, refl, ap, ap₂, ◌∙◌, subst, append_assoc, append-nil, arith, length-append}
 use Rattle.std.proofs.Math.Nat.{mul-le-mul_right}
-use Rattle.std.proofs.lemmas.List.{drop_more, length-map}
+use Rattle.std.proofs.lemmas.List.{drop_all, drop_more, length-map}
 use Rattle.std.proofs.lemmas.List.Sums.{sum_by-drop_more}
 use Rattle.bounded.specs.Elems.{elems}
 use Rattle.clauses.specs.Beginnings.{begins}
 use Rattle.clauses.specs.Clauses.{literals_at}
 use Rattle.clauses.specs.Joins.{fit_decided, row, rows, raw}
+use Rattle.clauses.specs.Variants.{variables}
+use Rattle.clauses.proofs.Below.{nodes-below}
 use Rattle.clauses.proofs.Each.{size-each}
+use Rattle.clauses.proofs.Grown.{sizes-held}
+use Rattle.clauses.proofs.Ordered.{raw-numbered}
 use Rattle.subsume.specs.declared.view.View.{View}
 use Rattle.term.specs.Coding.{decode, word_at}
 use Rattle.term.specs.Joined.{mean, Inside}
 use Rattle.term.specs.Joins.{Table}
+use Rattle.term.specs.Lawful.{Numbered}
+use Rattle.term.specs.Matched.{Below}
 use Rattle.term.specs.Words.{Word, var, size}
 use Rattle.term.specs.declared.join.Pair.{Pair}
 use Rattle.term.proofs.Cases.{by-test, by-test-both}
 use Rattle.term.proofs.Pairings.{inside-none, mean-none}
 use Rattle.joining.specs.declared.raw.RawClause.{RawClause}
 use Rattle.joining.specs.Raw.{literals, Added}
-use Rattle.joining.proofs.Grown.{sizes-held}
 use Rattle.joining.proofs.Standing.{literal_at, rest-begun, sum-begun}
 
 -- what a literal gives with those of E, and then the literals C with those of D
@@ -88,6 +93,13 @@ module _ (a b : View) where
         )
 
   module _ (r : RawClause) (s : List Pair) where
+    -- where all literals are joined, there are fewer variables than nodes
+    pub joined-below : (i : ℕ) → length a.starts.now ≤ i → Joined i r s → Below 4096 (elems r.nodes)
+    joined-below i h g =
+        let none = drop_all i C (omega (arith, length-map a.starts.now (word_at a.nodes.now))) in
+        let built : literals r ≡ raw C D = sym (append-nil (literals r)) ∙ (rw none at g.built) in
+        nodes-below 4096 (elems r.nodes) r.whole (subst (λ (L : List Word). Numbered 0 (variables L)) (sym built) (raw-numbered C D)) (omega (arith, g.room))
+
     pub joining-more : (i j : ℕ) (r' : RawClause) (s' : List Pair) → i < length a.starts.now → j < length b.starts.now → Joining i j r s
         → Added a.nodes.now b.nodes.now (get_or a.starts.now i 0) (get_or b.starts.now j 0) r r' s s' → Joining i (j + 1) r' s'
     joining-more i j r' s' h k g d =

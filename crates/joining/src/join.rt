@@ -1,9 +1,11 @@
 // The raw clause of two clauses.
 ghost use Rattle.std.specs.Prelude.{◌≡◌, ◌≤◌, length};
+ghost use Rattle.bounded.specs.Elems.{elems};
 ghost use Rattle.clauses.specs.Beginnings.{begins};
 ghost use Rattle.clauses.specs.Clauses.{literals_at};
 ghost use Rattle.clauses.specs.Joins.{raw};
 ghost use Rattle.term.specs.Coding.{decode};
+ghost use Rattle.term.specs.Matched.{Below};
 ghost use Rattle.joining.specs.Raw.{literals};
 
 use super::raw::RawClause;
@@ -12,12 +14,14 @@ use subsume::View;
 use term::Pair;
 
 // Joins each literal of the first clause with each of the second that it fits, over one table of pairs. Nothing refuses: a
-// join has no more nodes than its left side, so 16 of each of 256 nodes have room.
+// join has no more nodes than its left side, so 16 of each of 256 nodes have room. The variables are numbered by first
+// standing, so each is below the count of nodes.
 pub fn raw_clause(first: View<'_>, second: View<'_>) -> RawClause
     requires begun { first.starts.now ≡ begins 0 (decode first.nodes.now) }
     requires few { (length first.starts.now ≤ 16) × (length second.starts.now ≤ 16) }
     requires small { length first.nodes.now ≤ 256 }
-    ensures { literals result ≡ raw (literals_at first.entry.nodes.now first.entry.starts.now) (literals_at second.entry.nodes.now second.entry.starts.now) }
+    ensures literals { literals result ≡ raw (literals_at first.entry.nodes.now first.entry.starts.now) (literals_at second.entry.nodes.now second.entry.starts.now) }
+    ensures variables { Below 4096 (elems result.nodes) }
 {
     let mut clause = RawClause::new();
     let mut pairs = Bounded::new(Pair { left: 0, right: 0 });

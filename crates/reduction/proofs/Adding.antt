@@ -9,6 +9,7 @@ use Rattle.clauses.specs.Clauses.{each}
 use Rattle.clauses.specs.Numbering.{enlist, rank}
 use Rattle.clauses.proofs.Beginnings.{length-begins}
 use Rattle.clauses.proofs.Each.{length-each, size-each}
+use Rattle.clauses.proofs.Grown.{sizes-held, each-grown}
 use Rattle.term.specs.Coding.{code, decode, word_at, Next}
 use Rattle.term.specs.Words.{Word, var, size, sub}
 use Rattle.term.specs.declared.node.Node.{Node}
@@ -17,7 +18,6 @@ use Rattle.term.proofs.Codings.{word-between, length-code}
 use Rattle.reduction.specs.declared.compact.Compact.{Compact}
 use Rattle.reduction.specs.Compacts.{literals, Added, Refused}
 use Rattle.reduction.specs.Numbers.{variables_in, renumbered_node}
-use Rattle.reduction.proofs.Grown.{sizes-held, each-grown}
 use Rattle.reduction.proofs.Nodes.{variables-word, renumbered-code}
 
 module _ (c : Compact) where

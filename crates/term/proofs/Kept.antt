@@ -9,21 +9,21 @@ use Rattle.term.proofs.Laws.{numbered_more, stood-more}
 use Rattle.term.proofs.Joinings.{len-joins}
 
 -- the variables xs are numbered from T on, and U has stood after them
-record Runs (T U : Table) (xs : List ℕ) : Type 0 where
-  order : Numbered (length T) xs
-  last : stood (length T) xs ≡ length U
+pub record Runs (T U : Table) (xs : List ℕ) : Type 0 where
+  pub order : Numbered (length T) xs
+  pub last : stood (length T) xs ≡ length U
 
 runs-stand : (u v : Word) (T : Table) → Runs T (enter T u v) (place T u v ∷ [])
 runs-stand u v T = record { order = (place-within u v T, tt); last = sym (length-enter u v T) }
 
-runs-more : (T U V : Table) (xs ys : List ℕ) → Runs T U xs → Runs U V ys → Runs T V (xs ++ ys)
+pub runs-more : (T U V : Table) (xs ys : List ℕ) → Runs T U xs → Runs U V ys → Runs T V (xs ++ ys)
 runs-more T U V xs ys p q = record {
   order = numbered_more (length T) xs ys p.order (subst (λ (n : ℕ). Numbered n ys) (sym p.last) q.order);
   last = stood-more (length T) xs ys ∙ ap (λ (n : ℕ). stood n ys) p.last ∙ q.last;
 }
 
 mutual
-  runs-join : (u v : Word) (T : Table) → Runs T (join u v T).1 (vars (join u v T).0)
+  pub runs-join : (u v : Word) (T : Table) → Runs T (join u v T).1 (vars (join u v T).0)
   runs-join (var x) v T = runs-stand (var x) v T
   runs-join (app s us) (var y) T = runs-stand (app s us) (var y) T
   runs-join (app s us) (app t vs) T =

@@ -1,6 +1,6 @@
 use Rattle.std.proofs.Common.{arith}
 use Rattle.bounded.specs.Elems.{elems}
-use Rattle.joining.proofs.Turns.{joined-none, room-next, joining-more}
+use Rattle.joining.proofs.Turns.{joined-none, room-next, joined-below, joining-more}
 use Rattle.joining.proofs.join.raw_clause.Goals as goal
 
 pub loop-i-init : goal.loop-i-init
@@ -22,3 +22,6 @@ loop-j-preserved c =
     let f = c.literal-in-loop-j.ensures in
     joining-more c.args.first c.args.second c.loop-j.clause (elems c.loop-j.pairs) c.loop-i.i c.loop-j.j c.add.new.self (elems c.add.new.pairs)
     (omega arith) (omega arith) c.loop-j.invariant (rw (e.nodes, e.start, f.nodes, f.start) at c.add.ensures)
+
+pub returns-clause-variables : goal.returns-clause-variables
+returns-clause-variables c = joined-below c.args.first c.args.second c.loop-i.clause (elems c.loop-i.pairs) c.loop-i.i (omega arith) c.loop-i.invariant

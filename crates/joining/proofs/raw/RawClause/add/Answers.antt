@@ -5,9 +5,9 @@ use Rattle.bounded.proofs.Rooms.{pushed_room}
 use Rattle.clauses.specs.Beginnings.{begins}
 use Rattle.clauses.proofs.Beginnings.{length-begins}
 use Rattle.clauses.proofs.Each.{length-each}
+use Rattle.clauses.proofs.Grown.{whole-grown, begins-grown}
 use Rattle.term.specs.Coding.{Whole, decode}
 use Rattle.term.specs.declared.node.Node.{Node}
-use Rattle.joining.proofs.Grown.{whole-grown, begins-grown}
 use Rattle.joining.proofs.Fitting.{added-one, added-none}
 use Rattle.joining.proofs.raw.RawClause.add.Goals as goal
 

@@ -2,9 +2,9 @@ use Rattle.std.proofs.Common.{◌≡◌, ◌<◌, length, ◌∙◌, sym, ap, ap
 use Rattle.bounded.specs.Elems.{elems}
 use Rattle.clauses.specs.Clauses.{literals_at}
 use Rattle.clauses.proofs.Beginnings.{inside-begins}
+use Rattle.clauses.proofs.Grown.{sizes-held}
 use Rattle.term.specs.Coding.{Whole, decode}
 use Rattle.term.specs.Words.{sizes}
-use Rattle.joining.proofs.Grown.{sizes-held}
 use Rattle.joining.proofs.Standing.{literals-begun}
 use Rattle.joining.proofs.raw.RawClause.view.Goals as goal
 

@@ -2,10 +2,10 @@ use Rattle.std.proofs.Common.{List, ℕ, ◌++◌, ◌∷◌, [], refl, sym, ap,
 use Rattle.std.proofs.lemmas.Result.{err_from_is_err_and}
 use Rattle.bounded.specs.Elems.{elems}
 use Rattle.clauses.specs.Beginnings.{begins}
+use Rattle.clauses.proofs.Grown.{whole-grown, begins-grown}
 use Rattle.term.specs.Coding.{Whole, decode}
 use Rattle.term.specs.declared.node.Node.{Node}
 use Rattle.reduction.proofs.Adding.{numbered-is, beyond-nodes, beyond-starts, added}
-use Rattle.reduction.proofs.Grown.{whole-grown, begins-grown}
 use Rattle.reduction.proofs.compact.Compact.add.Goals as goal
 
 pub returns-then-end-literal : goal.returns-then-end-literal
