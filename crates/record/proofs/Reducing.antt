@@ -1,11 +1,9 @@
 -- A clause that is tidied, within the limit and renumbered, is a record.
-use Rattle.std.proofs.Common.{◌≡◌, ◌≢◌, ℕ, zero, suc, ◌<◌, true, false, not, ◌&&◌, List, [], ◌∷◌, length, get_or, All, AllPairs, Some, None, Option, sym, refl, ap, ◌∙◌, subst, arith}
+use Rattle.std.proofs.Common.{◌≡◌, ◌≢◌, ℕ, suc, ◌<◌, true, false, List, length, get_or, All, AllPairs, sym, refl, ap, ◌∙◌, subst, arith}
 use Rattle.std.proofs.lemmas.Bool.{and_from, not_from_false}
 use Rattle.std.proofs.lemmas.List.Elements.{All-nil, All-cons, All-head, All-tail}
-use Rattle.bounded.specs.declared.list.Bounded.{Bounded}
 use Rattle.bounded.specs.Elems.{elems}
-use Rattle.clauses.specs.Beginnings.{begins}
-use Rattle.clauses.specs.Clauses.{each, literals_at}
+use Rattle.clauses.specs.Clauses.{each}
 use Rattle.clauses.specs.Least.{Within}
 use Rattle.clauses.specs.Narrowness.{NarrowOver}
 use Rattle.clauses.specs.Numbering.{renumbered}
@@ -16,15 +14,13 @@ use Rattle.clauses.specs.Joins.{raw}
 use Rattle.clauses.proofs.Generalisations.{raw-narrow}
 use Rattle.clauses.proofs.Limits.{tidies-within}
 use Rattle.clauses.proofs.Numberings.{renumbered-numbered, renumbered-narrow, renumbered-tidy}
-use Rattle.clauses.proofs.Parts.{All-from}
 use Rattle.clauses.proofs.Reductions.{tidies-tidy, tidies-one, All-tidies, some-tidies}
 use Rattle.clauses.proofs.Smallest.{tidy-distinct}
 use Rattle.reduction.specs.declared.compact.Compact.{Compact}
-use Rattle.reduction.specs.Compacts.{literals as compact_literals, Renumbers}
+use Rattle.reduction.specs.Compacts.{literals as compact_literals}
 use Rattle.term.specs.Coding.{decode}
 use Rattle.term.specs.Lawful.{Numbered}
 use Rattle.term.specs.Words.{Word, var, app, Words, nil, cons, varss}
-use Rattle.term.specs.declared.node.Node.{Node}
 use Rattle.term.specs.declared.node.Symbol.{Symbol}
 use Rattle.record.specs.Clauses.{predicative, Literal, Literals, stands, distinct}
 use Rattle.record.specs.declared.clause.Record.{Record}
@@ -103,4 +99,3 @@ raw-literals x y =
 
 pub record-within : (r : Record) → Within (clause r)
 record-within r = let h = held r in let n = length-each (literals r) in let s = size-each (literals r) in (rw n h.few, rw s h.small)
-

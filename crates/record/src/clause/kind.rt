@@ -31,7 +31,8 @@ impl Kind for Record {
 
     // Whether some substitution turns each literal of this rule into a literal of the mount.
     fn covers(&self, mount: &Record) -> bool {
-        self.view().covers::<LITERALS, SLOTS, VARIABLES>(mount.view())
+        self.view()
+            .covers::<LITERALS, SLOTS, VARIABLES>(mount.view())
     }
 
     fn tidy(&mut self)

@@ -1,4 +1,3 @@
-use Rattle.std.proofs.Common.{List, sym, ap}
 use Rattle.bounded.specs.Elems.{elems}
 use Rattle.clauses.specs.Clauses.{literals_at}
 use Rattle.record.proofs.Reducing.{compact-invariant, beyond}

@@ -1,5 +1,4 @@
 use Rattle.std.proofs.Common.{List, All, sym, subst, arith}
-use Rattle.term.specs.Matched.{Below}
 use Rattle.term.specs.Words.{Word}
 use Rattle.term.proofs.Matchings.{below_more}
 use Rattle.record.specs.Clauses.{Literal}
