@@ -1,13 +1,13 @@
--- Where variables are met is a node of the mount.
+-- Each entry of a witness is a node of the mount.
 use Rattle.std.proofs.Common.{◌≡◌, ℕ, zero, suc, ◌+◌, ◌<◌, ◌≤◌, Bool, true, false, cond, eqb, List, [], ◌∷◌, ◌++◌, get_or, Some, Option, arith}
 use Rattle.std.specs.List.{AllZip, find, slice_get}
 use Rattle.std.proofs.lemmas.Option.{slice_get_within}
 use Rattle.clauses.specs.Beginnings.{begins}
 use Rattle.clauses.specs.Clauses.{each}
 use Rattle.clauses.proofs.Each.{length-each}
+use Rattle.record.specs.Clauses.{variables}
 use Rattle.term.specs.Words.{Word, var, app, Words, nil, cons, len, size, sizes, sub}
 use Rattle.term.proofs.Substitutions.{size-pos}
-use Rattle.record.specs.Clauses.{variables}
 use Rattle.witness.specs.Witness.{met, mets, meetings, Witness}
 
 -- what is found is below n, where all nodes are

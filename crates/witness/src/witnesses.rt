@@ -1,13 +1,12 @@
 // A witness of covering: for each variable of a rule, the place in a record where it is met.
 ghost use Rattle.std.specs.Prelude.{◌≡◌, ℕ, ◌<◌, ◌≤◌, [], ◌∷◌, length, Some, codes};
+ghost use Rattle.record.specs.Clauses.{variables};
+ghost use Rattle.record.specs.Records.{literals, clause};
+ghost use Rattle.subsume.specs.FirstChoices.{Chooses};
 ghost use Rattle.term.specs.Coding.{word_at};
 ghost use Rattle.term.specs.Matched.{Below, Turns};
 ghost use Rattle.term.specs.Words.{Word};
-ghost use Rattle.record.specs.Clauses.{variables};
-ghost use Rattle.record.specs.Records.{literals};
-ghost use Rattle.record.specs.Records.{clause};
 ghost use Rattle.witness.specs.Steps.{noted};
-ghost use Rattle.subsume.specs.FirstChoices.{Chooses};
 ghost use Rattle.witness.specs.Witness.{met, meetings, Witnessed, too_few_entries};
 
 use super::choices::first_choice;
