@@ -1,1 +1,2 @@
 mod Coverings
+mod Witnesses

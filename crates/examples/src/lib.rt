@@ -17,6 +17,7 @@ mod tests {
     use record::Record;
     use std::process::Abort;
     use std::test::Fail;
+    use witness::{TooFewEntries, first_choice, witness};
     use word::Layer;
 
     // A number and its form.
@@ -156,6 +157,12 @@ mod tests {
         Ok(place)
     }
 
+    fn read_record(input: &[u8]) -> Result<Record, Fail> {
+        let mut record = Record::new();
+        record.read(input)?;
+        Ok(record)
+    }
+
     // Beside it `lists_record` is the same of a record: one function over both would make each of their calls longer.
     fn lists(rt: &(impl Abort + AllocGlobal), input: &[u8], text: &str) -> Result<(), Fail> {
         let listing = listing::list_place(rt.alloc(), input)?;
@@ -274,8 +281,7 @@ mod tests {
         let mut deep = [1u8; 513];
         deep[1] = 2;
         deep[512] = 0;
-        let mut record = Record::new();
-        record.read(&deep)?;
+        let record = read_record(&deep)?;
         assert_eq!(rt; record.nodes().len(), 256);
         let mut long = [1u8; 515];
         long[1] = 2;
@@ -329,8 +335,7 @@ mod tests {
 
     #[test]
     fn a_record_is_written_as_it_was_read(rt: HostRuntime) -> Result<(), Fail> {
-        let mut record = Record::new();
-        record.read(&[2, 2, 1, 0, 5, 1, 7, 0])?;
+        let mut record = read_record(&[2, 2, 1, 0, 5, 1, 7, 0])?;
         let mut out = [9u8; 9];
         assert_eq!(rt; record.write(&mut out), Ok(8));
         assert_eq!(rt; out, [2, 2, 1, 0, 5, 1, 7, 0, 9]);
@@ -377,6 +382,246 @@ mod tests {
             listing::show_place(rt.alloc(), &rule)?.as_str(),
             "f5(X0, X1)"
         );
+        Ok(())
+    }
+
+    // Packed records: {p1(X0), q2(X0)}, and {p1(a2), p1(a1), q2(a1)}, which it covers, and {p1(a2), q2(a1)}, which it does not.
+    const BOTH: [u8; 7] = [2, 2, 1, 0, 4, 1, 0];
+
+    const MET: [u8; 13] = [3, 2, 1, 5, 0, 2, 1, 3, 0, 4, 1, 3, 0];
+
+    const MISSED: [u8; 9] = [2, 2, 1, 5, 0, 4, 1, 3, 0];
+
+    // {p1(X0, X1), p1(X1, X2), p1(X2, X0)}, and a round of two before a round of three: {p1(a1, a2), p1(a2, a1), p1(a3, a4),
+    // p1(a4, a5), p1(a5, a3)}.
+    const ROUND: [u8; 13] = [3, 2, 2, 0, 2, 2, 2, 2, 4, 2, 2, 4, 0];
+
+    const ROUNDS: [u8; 31] = [
+        5, 2, 2, 3, 0, 5, 0, 2, 2, 5, 0, 3, 0, 2, 2, 7, 0, 9, 0, 2, 2, 9, 0, 11, 0, 2, 2, 11, 0, 7,
+        0,
+    ];
+
+    // {p1(X0)}, {p1(a1)} and {p1(X0, X1)}.
+    const ANY: [u8; 4] = [1, 2, 1, 0];
+
+    const ONE: [u8; 5] = [1, 2, 1, 3, 0];
+
+    const PAIR: [u8; 5] = [1, 2, 2, 0, 2];
+
+    // Of a rule and a mount, whether it is covered.
+    fn covered(rt: &impl Abort, cases: &[(&[u8], &[u8], bool)]) -> Result<(), Fail> {
+        for (rule, mount, answer) in cases {
+            assert_eq!(rt;
+                read_record(rule)?.covers(&read_record(mount)?),
+                *answer,
+                "{rule:?} over {mount:?}"
+            );
+        }
+        Ok(())
+    }
+
+    #[test]
+    fn records_cover(rt: HostRuntime) -> Result<(), Fail> {
+        covered(
+            &rt,
+            &[
+                (&ANY, &ONE, true),
+                (&ONE, &ANY, false),
+                (&BOTH, &MET, true),
+                (&BOTH, &MISSED, false),
+                // the empty record
+                (&[0], &[0], true),
+                (&[0], &ONE, true),
+                (&ANY, &[0], false),
+                // {p1(X0), p1(X1)} over {p1(a1)}
+                (&[2, 2, 1, 0, 2, 1, 2], &ONE, true),
+                // two are one only where they are the same: {p1(X0, X0)} over {p1(a1, a2)}
+                (&[1, 2, 2, 0, 0], &[1, 2, 2, 3, 0, 5, 0], false),
+                // a round of three in a round of two, and beside it
+                (&ROUND, &[2, 2, 2, 3, 0, 5, 0, 2, 2, 5, 0, 3, 0], false),
+                (&ROUND, &ROUNDS, true),
+            ],
+        )
+    }
+
+    #[test]
+    fn variables_of_both_sides_are_apart(rt: HostRuntime) -> Result<(), Fail> {
+        covered(
+            &rt,
+            &[
+                // {p1(X0)} over {p1(f6(X0))}
+                (&ANY, &[1, 2, 1, 13, 1, 0], true),
+                // {p1(X0, f6(X1))} over {p1(f6(X0), f6(f6(X0)))}
+                (
+                    &[1, 2, 2, 0, 13, 1, 2],
+                    &[1, 2, 2, 13, 1, 0, 13, 1, 13, 1, 0],
+                    true,
+                ),
+                // {p1(X0), -p1(f6(X0))} over {p1(X0), -p1(f6(f6(X0)))}
+                (
+                    &[2, 2, 1, 0, 3, 1, 13, 1, 0],
+                    &[2, 2, 1, 0, 3, 1, 13, 1, 13, 1, 0],
+                    false,
+                ),
+                // the mount's are not bound: {p1(X0, X0)} over {p1(X0, X1)}
+                (&[1, 2, 2, 0, 0], &PAIR, false),
+            ],
+        )
+    }
+
+    #[test]
+    fn sign_and_count_of_places_matter(rt: HostRuntime) -> Result<(), Fail> {
+        covered(
+            &rt,
+            &[
+                // -p1(X0) and p1(a1)
+                (&[1, 3, 1, 0], &ONE, false),
+                (&[1, 3, 1, 0], &[1, 3, 1, 3, 0], true),
+                // p1 and p1(a1), p1(X0, X1) and p1(a1)
+                (&[1, 2, 0], &ONE, false),
+                (&PAIR, &ONE, false),
+                // q2(X0) and p1(a1)
+                (&[1, 4, 1, 0], &ONE, false),
+                // p1(f1(X0)) and p1(a1), p1(f1(a1, a1))
+                (&[1, 2, 1, 3, 1, 0], &ONE, false),
+                (&[1, 2, 1, 3, 1, 0], &[1, 2, 1, 3, 2, 3, 0, 3, 0], false),
+            ],
+        )
+    }
+
+    // What a list of 9s then holds, beside the answer.
+    fn witnessed(
+        rt: &impl Abort,
+        rule: &[u8],
+        mount: &[u8],
+        answer: Option<usize>,
+        entries: [u16; 4],
+    ) -> Result<(), Fail> {
+        let mut list = [9; 4];
+        assert_eq!(rt;
+            witness(&read_record(rule)?, &read_record(mount)?, &mut list),
+            Ok(answer)
+        );
+        assert_eq!(rt; list, entries);
+        Ok(())
+    }
+
+    #[test]
+    fn a_witness_tells_nodes(rt: HostRuntime) -> Result<(), Fail> {
+        witnessed(&rt, &BOTH, &MET, Some(1), [3, 9, 9, 9])?;
+        witnessed(&rt, &BOTH, &MISSED, None, [9; 4])?;
+        // the round of two has to be given up
+        witnessed(&rt, &ROUND, &ROUNDS, Some(3), [7, 8, 11, 9])?;
+        // {p1(X0, X1)} in {p1(f6(a1), a2)}
+        witnessed(
+            &rt,
+            &PAIR,
+            &[1, 2, 2, 13, 1, 3, 0, 5, 0],
+            Some(2),
+            [1, 3, 9, 9],
+        )?;
+        witnessed(&rt, &ONE, &ONE, Some(0), [9; 4])?;
+        witnessed(&rt, &[0], &[0], Some(0), [9; 4])
+    }
+
+    #[test]
+    fn a_short_list_is_refused(rt: HostRuntime) -> Result<(), Fail> {
+        let pair = read_record(&PAIR)?;
+        let mut list = [9; 1];
+        assert_eq!(rt; witness(&pair, &pair, &mut list), Err(TooFewEntries));
+        // before the search
+        assert_eq!(rt;
+            witness(&pair, &read_record(&ONE)?, &mut list),
+            Err(TooFewEntries)
+        );
+        assert_eq!(rt; list, [9]);
+        assert_eq!(rt; TooFewEntries.question(), 12);
+        let mut enough = [9; 2];
+        assert_eq!(rt; witness(&pair, &pair, &mut enough), Ok(Some(2)));
+        assert_eq!(rt; enough, [1, 2]);
+        Ok(())
+    }
+
+    fn chosen(
+        rt: &impl Abort,
+        rule: &[u8],
+        mount: &[u8],
+        choice: Option<&[u16]>,
+    ) -> Result<(), Fail> {
+        let first = first_choice(&read_record(rule)?, &read_record(mount)?);
+        assert_eq!(rt; first.as_ref().map(|first| first.as_slice()), choice);
+        Ok(())
+    }
+
+    #[test]
+    fn the_first_choice_counts(rt: HostRuntime) -> Result<(), Fail> {
+        chosen(&rt, &BOTH, &MET, Some(&[1, 2]))?;
+        chosen(&rt, &BOTH, &MISSED, None)?;
+        chosen(&rt, &ROUND, &ROUNDS, Some(&[2, 3, 4]))?;
+        // {p1(X0), p1(X1)} and {p1(a2), p1(a1), q2(a1)}
+        chosen(&rt, &[2, 2, 1, 0, 2, 1, 2], &MET, Some(&[0, 0]))?;
+        chosen(&rt, &[0], &MET, Some(&[]))
+    }
+
+    #[test]
+    fn covering_is_explained(rt: HostRuntime) -> Result<(), Fail> {
+        let rule = read_record(&BOTH)?;
+        let covered = listing::explain(rt.alloc(), &rule, &read_record(&MET)?)?;
+        assert_eq!(rt;
+            covered.as_str(),
+            "rule {p1(X0), q2(X0)}\nmount {p1(a2), p1(a1), q2(a1)}\ncovered\nX0 is a1 at node 3\np1(X0) becomes p1(a1)\nq2(X0) becomes q2(a1)\n"
+        );
+        let missed = listing::explain(rt.alloc(), &rule, &read_record(&MISSED)?)?;
+        assert_eq!(rt;
+            missed.as_str(),
+            "rule {p1(X0), q2(X0)}\nmount {p1(a2), q2(a1)}\nnot covered\n"
+        );
+        Ok(())
+    }
+
+    #[test]
+    fn packed_records_are_explained(rt: HostRuntime) -> Result<(), Fail> {
+        lists_covering(
+            &rt,
+            &PAIR,
+            &[1, 2, 2, 13, 1, 3, 0, 5, 0],
+            "rule {p1(X0, X1)}\nmount {p1(f6(a1), a2)}\ncovered\nX0 is f6(a1) at node 1\nX1 is a2 at node 3\np1(X0, X1) becomes p1(f6(a1), a2)\n",
+            None,
+        )?;
+        lists_covering(&rt, &[0], &[0], "rule {}\nmount {}\ncovered\n", None)?;
+        lists_covering(
+            &rt,
+            &ANY,
+            &[0],
+            "rule {p1(X0)}\nmount {}\nnot covered\n",
+            None,
+        )?;
+        lists_covering(
+            &rt,
+            &[17],
+            &[0, 0],
+            "rule: fault 4 at byte 0 in record: there are more than 16 literals\n",
+            Some(4),
+        )?;
+        lists_covering(
+            &rt,
+            &[0],
+            &[1, 3, 1, 2],
+            "mount: fault 7 at byte 3 of literal 0 in word, literal, record: a variable is not the next unused one\n",
+            Some(7),
+        )
+    }
+
+    fn lists_covering(
+        rt: &(impl Abort + AllocGlobal),
+        rule: &[u8],
+        mount: &[u8],
+        text: &str,
+        question: Option<u8>,
+    ) -> Result<(), Fail> {
+        let listing = listing::list_covering(rt.alloc(), rule, mount)?;
+        assert_eq!(rt; listing.text.as_str(), text);
+        assert_eq!(rt; listing.fault.map(|fault| fault.question()), question);
         Ok(())
     }
 }

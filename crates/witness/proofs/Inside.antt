@@ -1,13 +1,14 @@
--- Where variables are met is a node of the mount.
+-- Each entry of a witness is a node of the mount.
 use Rattle.std.proofs.Common.{◌≡◌, ℕ, zero, suc, ◌+◌, ◌<◌, ◌≤◌, Bool, true, false, cond, eqb, List, [], ◌∷◌, ◌++◌, get_or, Some, Option, arith}
-use Rattle.std.specs.List.{AllZip, find, slice_get}
+use Rattle.std.specs.List.{All, AllZip, find, slice_get}
+use Rattle.std.proofs.lemmas.List.{get_or_default}
 use Rattle.std.proofs.lemmas.Option.{slice_get_within}
 use Rattle.clauses.specs.Beginnings.{begins}
 use Rattle.clauses.specs.Clauses.{each}
 use Rattle.clauses.proofs.Each.{length-each}
+use Rattle.record.specs.Clauses.{variables}
 use Rattle.term.specs.Words.{Word, var, app, Words, nil, cons, len, size, sizes, sub}
 use Rattle.term.proofs.Substitutions.{size-pos}
-use Rattle.record.specs.Clauses.{variables}
 use Rattle.witness.specs.Witness.{met, mets, meetings, Witness}
 
 -- what is found is below n, where all nodes are
@@ -58,3 +59,6 @@ module _ (mount : Words) (θ : ℕ → Word) where
 
 pub inside : (rule mount : Words) (list : List ℕ) → Witness rule mount list → (x : ℕ) → x < variables rule → get_or list x 0 < sizes mount
 inside rule mount list w x h = below-found (sizes mount) (λ p. eqb p.0 x) (meetings (each rule) mount w.0) (x, get_or list x 0) (meetings-below mount w.1.0.0 (each rule) w.0 w.1.0.1) (w.3 x h)
+
+pub All-inside : (rule mount : Words) (list : List ℕ) → Witness rule mount list → All (λ q. q < sizes mount) list
+All-inside rule mount list w k d lt = rw (get_or_default list k d 0 lt) (inside rule mount list w k (omega (arith, w.2)))

@@ -4,13 +4,13 @@ use Rattle.std.specs.List.{AllZip, find, slice_get}
 use Rattle.std.proofs.lemmas.Bool.{cases_eq, eqb-true, eqb-false, eq-eqb, ne_eqb, cond_both}
 use Rattle.std.proofs.lemmas.List.{map-append, length-take-le, get_or-take, drop-set-lt, get_or-set_same, get_or-set_other, length-set}
 use Rattle.std.proofs.lemmas.Option.{get_or_from_slice_get}
+use Rattle.clauses.specs.Clauses.{each}
+use Rattle.clauses.specs.Beginnings.{begins}
+use Rattle.record.specs.Clauses.{variables}
+use Rattle.subsume.specs.FirstChoices.{Chooses, FirstChoice}
 use Rattle.term.specs.Lawful.{Numbered, stood}
 use Rattle.term.specs.Words.{Word, var, app, Words, nil, cons, size, vars, varss, sub, subs}
-use Rattle.clauses.specs.Clauses.{each}
-use Rattle.record.specs.Clauses.{variables}
-use Rattle.clauses.specs.Beginnings.{begins}
 use Rattle.witness.specs.Steps.{noted}
-use Rattle.subsume.specs.FirstChoices.{Chooses, FirstChoice}
 use Rattle.witness.specs.Witness.{met, mets, meetings, Witness}
 use Rattle.witness.proofs.Occurring.{le-stood}
 

@@ -1,6 +1,8 @@
 -- Two words side by side, of which a substitution makes the one from the other: where variables are met.
 use Rattle.std.proofs.Common.{◌≡◌, ℕ, suc, ◌+◌, ◌<◌, ◌≤◌, true, false, eqb, cond, List, [], ◌∷◌, ◌++◌, length, get_or, set, drop, sym, refl, ap, ◌∙◌, append_assoc, append-nil, add-zero, arith, length-append}
 use Rattle.std.proofs.lemmas.List.{append_cancel_left, drop_more, drop_all, drop-drop, length-drop}
+use Rattle.clauses.specs.Clauses.{each}
+use Rattle.clauses.specs.Beginnings.{begins}
 use Rattle.term.specs.Coding.{code, codes, hd, tl, decode, Whole, words_at, word_at, Next}
 use Rattle.term.specs.Words.{Word, var, app, Words, nil, cons, ◌+++◌, len, size, sizes, sub, subs}
 use Rattle.term.specs.declared.node.Node.{Node}
@@ -8,8 +10,6 @@ use Rattle.term.specs.declared.node.Node.TheVariants.{Variable, Applied}
 use Rattle.term.specs.declared.node.Symbol.{Symbol}
 use Rattle.term.proofs.Codings.{codes-more, decode-code, code-decode, whole_drop, len-at, word-nodes, length-code}
 use Rattle.term.proofs.Substitutions.{size-pos}
-use Rattle.clauses.specs.Clauses.{each}
-use Rattle.clauses.specs.Beginnings.{begins}
 use Rattle.witness.specs.Steps.{noted}
 use Rattle.witness.specs.Witness.{met, mets, meetings}
 

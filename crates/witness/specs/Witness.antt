@@ -1,11 +1,11 @@
--- Witnesses of covering: which literals a rule's literals become, and where its variables are met.
+-- A witness of covering: for each variable of a rule, the node of a mount where it is met.
 use Rattle.std.specs.Prelude.{◌≡◌, ℕ, ◌+◌, ◌<◌, ◌≤◌, List, [], ◌∷◌, ◌++◌, length, take, drop, slice_index, slice_index_or, Some, None, Option, Ok, Err, Result, ◌==◌}
 use Rattle.std.specs.List.{find, zip, flat_map}
-use Rattle.term.specs.Words.{Word, var, app, Words, nil, cons, size}
 use Rattle.clauses.specs.Clauses.{Covers, each}
-use Rattle.record.specs.Clauses.{variables}
 use Rattle.clauses.specs.Beginnings.{begins}
+use Rattle.record.specs.Clauses.{variables}
 use Rattle.subsume.specs.FirstChoices.{FirstChoice}
+use Rattle.term.specs.Words.{Word, var, app, Words, nil, cons, size}
 use Rattle.witness.specs.declared.witnesses.TooFewEntries.{TooFewEntries}
 
 -- where the variables of a word are met in a word whose nodes begin at `at`, in written order: each with the node there

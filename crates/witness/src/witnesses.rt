@@ -1,13 +1,12 @@
 // A witness of covering: for each variable of a rule, the place in a record where it is met.
-ghost use Rattle.std.specs.Prelude.{◌≡◌, ℕ, ◌<◌, ◌≤◌, [], ◌∷◌, length, Some, codes};
+ghost use Rattle.std.specs.Prelude.{◌≡◌, ℕ, ◌<◌, ◌≤◌, [], ◌∷◌, length, take, Some, All, IfOk, IfSome, codes};
+ghost use Rattle.record.specs.Clauses.{variables};
+ghost use Rattle.record.specs.Records.{literals, clause};
+ghost use Rattle.subsume.specs.FirstChoices.{Chooses};
 ghost use Rattle.term.specs.Coding.{word_at};
 ghost use Rattle.term.specs.Matched.{Below, Turns};
-ghost use Rattle.term.specs.Words.{Word};
-ghost use Rattle.record.specs.Clauses.{variables};
-ghost use Rattle.record.specs.Records.{literals};
-ghost use Rattle.record.specs.Records.{clause};
+ghost use Rattle.term.specs.Words.{Word, sizes};
 ghost use Rattle.witness.specs.Steps.{noted};
-ghost use Rattle.subsume.specs.FirstChoices.{Chooses};
 ghost use Rattle.witness.specs.Witness.{met, meetings, Witnessed, too_few_entries};
 
 use super::choices::first_choice;
@@ -107,7 +106,8 @@ pub fn witness(
     mount: &Record,
     list: &mut [u16],
 ) -> Result<Option<usize>, TooFewEntries>
-    ensures { Witnessed (literals rule.now) (literals mount.now) list.old result list.new }
+    ensures witnessed { Witnessed (literals rule.now) (literals mount.now) list.old result list.new }
+    ensures inside { IfOk result (λ answer. IfSome answer (λ n. All (λ q. q < sizes (literals mount.now)) (take n list.new))) }
 {
     let count = count_variables(rule);
     if list.len() < count {

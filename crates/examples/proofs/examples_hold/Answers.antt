@@ -5,8 +5,9 @@ use Rattle.number.specs.Groups.{groups}
 use Rattle.term.specs.Joins.{both_decided, Symbol-discrete, alike_decided, same_decided}
 use Rattle.word.specs.Packed.{packed}
 use Rattle.examples.proofs.Coverings.{one-step}
+use Rattle.examples.proofs.Witnesses.{at-three}
 use Rattle.examples.proofs.examples_hold.Goals as goal
 
 pub returns : goal.returns
 unfolding both_decided Symbol-discrete alike_decided same_decided form groups count_leading_zeros packed
-returns c = (refl, (refl, (refl, (one-step, tt))))
+returns c = (refl, (refl, (refl, (one-step, (at-three, tt)))))

@@ -1,9 +1,9 @@
 use Rattle.std.proofs.Common.{length, ap, sym, subst, lit<, arith}
 use Rattle.clauses.proofs.Beginnings.{length-begins}
-use Rattle.term.specs.Matched.{Below}
 use Rattle.record.specs.Records.{literals}
 use Rattle.record.specs.Held.{held}
 use Rattle.record.proofs.Views.{literals-seen, clause-below}
+use Rattle.term.specs.Matched.{Below}
 use Rattle.witness.proofs.choices.first_choice.Goals as goal
 
 pub first_choice-requires : goal.first_choice-requires

@@ -1,8 +1,8 @@
 use Rattle.std.proofs.Common.{◌≡◌, List, drop, sym, ap, ◌∙◌, arith}
 use Rattle.std.proofs.lemmas.List.{at_drop_all}
+use Rattle.record.specs.Records.{literals}
 use Rattle.term.specs.Lawful.{stood}
 use Rattle.term.specs.declared.node.Node.{Node}
-use Rattle.record.specs.Records.{literals}
 use Rattle.witness.proofs.Occurring.{occurring, occurring-all}
 use Rattle.witness.proofs.witnesses.count_variables.Goals as goal
 

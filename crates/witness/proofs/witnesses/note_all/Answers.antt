@@ -1,21 +1,20 @@
 use Rattle.std.proofs.Common.{◌≡◌, ℕ, ◌<◌, List, length, get_or, sym, ap, ◌∙◌, arith}
 use Rattle.std.proofs.lemmas.List.{get_or-map, length-map}
-use Rattle.term.specs.Lawful.{stood}
-use Rattle.term.specs.Coding.{codes, word_at}
-use Rattle.term.proofs.Codings.{length-codes}
-use Rattle.term.proofs.Matchings.{below_more}
-use Rattle.record.specs.Records.{literals}
+use Rattle.clauses.specs.Beginnings.{begins}
+use Rattle.record.specs.Records.{literals, clause}
+use Rattle.record.specs.declared.clause.Record.{Record}
 use Rattle.record.specs.Held.{held}
-use Rattle.record.specs.Records.{clause}
+use Rattle.record.proofs.Views.{literals-seen}
 use Rattle.subsume.specs.FirstChoices.{Chooses}
 use Rattle.subsume.specs.declared.view.View.{View}
-use Rattle.record.specs.declared.clause.Record.{Record}
-use Rattle.clauses.specs.Beginnings.{begins}
-use Rattle.record.proofs.Views.{literals-seen}
 use Rattle.subsume.proofs.Choosing.{Working, chooses-working}
+use Rattle.term.specs.Lawful.{stood}
+use Rattle.term.specs.Coding.{codes, word_at}
+use Rattle.term.specs.Words.{Word, var, varss}
+use Rattle.term.proofs.Codings.{length-codes}
+use Rattle.term.proofs.Matchings.{below_more}
 use Rattle.witness.proofs.Noting.{noted-on, noted-all}
 use Rattle.witness.proofs.Occurring.{occurring, occurring-all, below-stood}
-use Rattle.term.specs.Words.{Word, var, varss}
 use Rattle.witness.proofs.witnesses.note_all.Goals as goal
 
 -- a choice for two records, by their nodes

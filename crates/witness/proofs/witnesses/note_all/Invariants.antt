@@ -1,6 +1,5 @@
 use Rattle.std.proofs.Common.{◌≡◌, drop}
-use Rattle.record.specs.Records.{literals}
-use Rattle.record.specs.Records.{clause}
+use Rattle.record.specs.Records.{literals, clause}
 use Rattle.witness.specs.Steps.{noted}
 use Rattle.witness.specs.Witness.{meetings}
 use Rattle.witness.proofs.witnesses.note_all.Given as goal

@@ -2,11 +2,12 @@ use Rattle.std.proofs.Common.{arith}
 use Rattle.bounded.specs.Elems.{elems}
 use Rattle.record.specs.Records.{literals}
 use Rattle.record.specs.Held.{held}
+use Rattle.witness.proofs.Inside.{All-inside}
 use Rattle.witness.proofs.Noted.{witness-noted, witness-beyond}
 use Rattle.witness.proofs.witnesses.witness.Goals as goal
 
-pub returns : goal.returns
-returns c =
+pub returns-clause-witnessed : goal.returns-clause-witnessed
+returns-clause-witnessed c =
     let rule = literals c.args.rule.now in
     let mount = literals c.args.mount.now in
     let choice = elems c.in-Some.choice in
@@ -21,3 +22,6 @@ returns c =
       witness-beyond rule mount choice before after n order all c.in-Some.ensures made,
       c.note_all.auto.list,
     )
+
+pub returns-clause-inside : goal.returns-clause-inside
+returns-clause-inside c = All-inside (literals c.args.rule.now) (literals c.args.mount.now) _ (returns-clause-witnessed c).1
