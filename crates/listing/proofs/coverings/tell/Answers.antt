@@ -7,5 +7,5 @@ use Rattle.listing.proofs.coverings.tell.Goals as goal
 pub returns-in-Err : goal.returns-in-Err
 returns-in-Err c =
     let rule = c.args.rule.now in
-    let short = c.in-Err.ensures.0 in
+    let short = c.in-Err.ensures.witnessed.0 in
     absurd (omega (arith, short, few-variables (literals rule) (held rule)))
