@@ -1,4 +1,5 @@
-// Lists what packed bytes hold: numbers, one place word or one record; or says why a rule covers a mount.
+// Lists what packed bytes hold: numbers, one place word or one record, also tidied; says why a rule covers a mount; and
+// joins two records.
 #![tactic(auto)]
 
 use anyhow::{Context, bail};
@@ -9,12 +10,13 @@ use std::{env, fs};
 const USAGE: &str =
     "usage: inspect [numbers | place | record] < FILE, or inspect covers RULE MOUNT";
 
-// What bytes are the packed form of.
+// What is to be done with the bytes of standard input.
 #[derive(Clone, Copy)]
-enum Form {
+enum Task {
     Numbers,
     Place,
     Record,
+    Tidy,
 }
 
 fn main(rt: HostRuntime) -> anyhow::Result<()> {
@@ -22,38 +24,43 @@ fn main(rt: HostRuntime) -> anyhow::Result<()> {
     for arg in env::args(&rt)?.skip(1) {
         args.push(arg)?;
     }
-    let form = match args.len() {
-        0 => Some(Form::Numbers),
-        1 => form_of(args[0].as_str()),
+    let task = match args.len() {
+        0 => Some(Task::Numbers),
+        1 => task_of(args[0].as_str()),
         _ => None,
     };
-    if let Some(form) = form {
-        return list(&rt, form);
+    if let Some(task) = task {
+        return list(&rt, task);
     }
     if args.len() == 3 && args[0].as_str() == "covers" {
         return covers(&rt, args[1].as_str(), args[2].as_str());
     }
+    if args.len() == 3 && args[0].as_str() == "join" {
+        return join(&rt, args[1].as_str(), args[2].as_str());
+    }
     bail!("{USAGE}")
 }
 
-// The form of this name.
-fn form_of(name: &str) -> Option<Form> {
+// The task of this name.
+fn task_of(name: &str) -> Option<Task> {
     match name {
-        "numbers" => Some(Form::Numbers),
-        "place" => Some(Form::Place),
-        "record" => Some(Form::Record),
+        "numbers" => Some(Task::Numbers),
+        "place" => Some(Task::Place),
+        "record" => Some(Task::Record),
+        "tidy" => Some(Task::Tidy),
         _ => None,
     }
 }
 
-// Lists what standard input is the packed form of.
-fn list(rt: &HostRuntime, form: Form) -> anyhow::Result<()> {
+// Lists what standard input is the packed form of, tidied where that is asked.
+fn list(rt: &HostRuntime, task: Task) -> anyhow::Result<()> {
     let mut input = Vec::new(rt.alloc());
     rt.stdin().read_to_end(&mut input)?;
-    match form {
-        Form::Numbers => print(rt, listing::list_numbers(rt.alloc(), &input)?),
-        Form::Place => print(rt, listing::list_place(rt.alloc(), &input)?),
-        Form::Record => print(rt, listing::list_record(rt.alloc(), &input)?),
+    match task {
+        Task::Numbers => print(rt, listing::list_numbers(rt.alloc(), &input)?),
+        Task::Place => print(rt, listing::list_place(rt.alloc(), &input)?),
+        Task::Record => print(rt, listing::list_record(rt.alloc(), &input)?),
+        Task::Tidy => print(rt, listing::list_tidied(rt.alloc(), &input)?),
     }
 }
 
@@ -62,6 +69,13 @@ fn covers(rt: &HostRuntime, rule: &str, mount: &str) -> anyhow::Result<()> {
     let rule = fs::read(rt, rule).context(rule)?;
     let mount = fs::read(rt, mount).context(mount)?;
     print(rt, listing::list_covering(rt.alloc(), &rule, &mount)?)
+}
+
+// Joins the records of two files.
+fn join(rt: &HostRuntime, first: &str, second: &str) -> anyhow::Result<()> {
+    let first = fs::read(rt, first).context(first)?;
+    let second = fs::read(rt, second).context(second)?;
+    print(rt, listing::list_joined(rt.alloc(), &first, &second)?)
 }
 
 // Prints a listing; a fault that ended it is an error.

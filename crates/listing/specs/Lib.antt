@@ -5,3 +5,4 @@ pub mod FaultLines
 pub mod PlaceLines
 pub mod RecordLines
 pub mod Explained
+pub mod Reduced

@@ -7,6 +7,7 @@ mod listings;
 mod numbers;
 mod places;
 mod records;
+mod reductions;
 mod words;
 
 pub use coverings::{explain, list_covering};
@@ -14,4 +15,5 @@ pub use listings::Listing;
 pub use numbers::list_numbers;
 pub use places::list_place;
 pub use records::{list_record, show_record};
+pub use reductions::{list_joined, list_tidied};
 pub use words::show_place;

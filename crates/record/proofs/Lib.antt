@@ -9,3 +9,4 @@ pub mod Back
 pub mod Forms
 pub mod Views
 pub mod Reducing
+pub mod Lengths
