@@ -35,10 +35,14 @@ first-drops : (u : Word) → Covers (p X ∷ p u ∷ []) (p u ∷ []) → Tidies
 first-drops u c = drops (omega arith) c (one-left (p u))
 
 pub to-constant : Tidies 0 (p X ∷ p a ∷ []) (p a ∷ [])
-to-constant = first-drops a (covers-by (λ _. a) (p X ∷ p a ∷ []) (p a ∷ []) ((0, omega arith, refl), ((0, omega arith, refl), tt)))
+to-constant =
+    first-drops a
+    (covers-by (λ _. a) (p X ∷ p a ∷ []) (p a ∷ []) ((0, omega arith, refl), ((0, omega arith, refl), tt)))
 
 pub to-variable : Tidies 0 (p X ∷ p Y ∷ []) (p Y ∷ [])
-to-variable = first-drops Y (covers-by (λ _. Y) (p X ∷ p Y ∷ []) (p Y ∷ []) ((0, omega arith, refl), ((0, omega arith, refl), tt)))
+to-variable =
+    first-drops Y
+    (covers-by (λ _. Y) (p X ∷ p Y ∷ []) (p Y ∷ []) ((0, omega arith, refl), ((0, omega arith, refl), tt)))
 
 -- X would have to become a, and a to be X
 left-stays : Covers (p_two X a ∷ p_two a X ∷ []) (p_two a X ∷ []) → ⊥
@@ -63,7 +67,7 @@ third = p_two (f_one (var 4)) (var 5)
 abbrev pub last : Word
 last = p_two (var 6) (g (var 0))
 
--- the first would have to become the third, and then the last names a variable that stands nowhere else
+-- the first would have to become the third, and then the last is none of those left
 first-needed : Covers (first ∷ second ∷ third ∷ last ∷ []) (second ∷ third ∷ last ∷ []) → ⊥
 first-needed c =
     let θ = c.0 in
@@ -89,12 +93,14 @@ last-needed c = let e = contains-only first _ (c.1 1 X (omega arith)) in cc
 -- Z becomes f(X), and the variable beside it Y
 second-idle : Covers (first ∷ second ∷ third ∷ last ∷ []) (first ∷ third ∷ last ∷ [])
 second-idle =
-    covers-by (λ x. get_or (X ∷ Y ∷ f_one X ∷ Y ∷ var 4 ∷ var 5 ∷ []) x (var 6)) (first ∷ second ∷ third ∷ last ∷ []) (first ∷ third ∷ last ∷ [])
+    covers-by (λ x. get_or (X ∷ Y ∷ f_one X ∷ Y ∷ var 4 ∷ var 5 ∷ []) x (var 6))
+    (first ∷ second ∷ third ∷ last ∷ []) (first ∷ third ∷ last ∷ [])
     ((0, omega arith, refl), ((0, omega arith, refl), ((1, omega arith, refl), ((2, omega arith, refl), tt))))
 
 third-idle : Covers (first ∷ third ∷ last ∷ []) (first ∷ last ∷ [])
 third-idle =
-    covers-by (λ x. get_or (X ∷ Y ∷ X ∷ X ∷ X ∷ Y ∷ []) x (var 6)) (first ∷ third ∷ last ∷ []) (first ∷ last ∷ [])
+    covers-by (λ x. get_or (X ∷ Y ∷ X ∷ X ∷ X ∷ Y ∷ []) x (var 6))
+    (first ∷ third ∷ last ∷ []) (first ∷ last ∷ [])
     ((0, omega arith, refl), ((0, omega arith, refl), ((1, omega arith, refl), tt)))
 
 pub two-stay : Tidies 0 (first ∷ second ∷ third ∷ last ∷ []) (first ∷ last ∷ [])
