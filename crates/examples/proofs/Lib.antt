@@ -1,2 +1,3 @@
 mod Coverings
 mod Witnesses
+mod Tidyings

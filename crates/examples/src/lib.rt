@@ -1,6 +1,7 @@
 // Examples of every layer: some are theorems of the definitions, in one list, and the others are run as tests.
 #![tactic(auto)]
 
+ghost use Rattle.std.specs.Prelude.{◌≤◌};
 ghost use Rattle.examples.specs.Examples.{examples, Hold};
 
 // The list of proved examples.
@@ -11,7 +12,7 @@ pub fn examples_hold()
 #[cfg(test)]
 mod tests {
     use bounded::{Bounded, Full};
-    use class::{Class, Kind};
+    use class::{Class, Kind, Refusal};
     use number::{NoRoom, NumberFault};
     use place::PlaceWord;
     use record::Record;
@@ -622,6 +623,164 @@ mod tests {
         let listing = listing::list_covering(rt.alloc(), rule, mount)?;
         assert_eq!(rt; listing.text.as_str(), text);
         assert_eq!(rt; listing.fault.map(|fault| fault.question()), question);
+        Ok(())
+    }
+
+    // What a record is in legible form.
+    fn shows(rt: &(impl Abort + AllocGlobal), record: &Record, text: &str) -> Result<(), Fail> {
+        assert_eq!(rt; listing::show_record(rt.alloc(), record)?.as_str(), text);
+        Ok(())
+    }
+
+    fn tidies(rt: &(impl Abort + AllocGlobal), input: &[u8], text: &str) -> Result<(), Fail> {
+        let mut record = read_record(input)?;
+        record.tidy();
+        shows(rt, &record, text)
+    }
+
+    #[test]
+    fn records_are_tidied(rt: HostRuntime) -> Result<(), Fail> {
+        // {p1(X0), p1(a1)}, {p1(X0), p1(X1)} and {p1(X0, a1), p1(a1, X0)}
+        tidies(&rt, &[2, 2, 1, 0, 2, 1, 3, 0], "{p1(a1)}")?;
+        tidies(&rt, &[2, 2, 1, 0, 2, 1, 2], "{p1(X0)}")?;
+        tidies(
+            &rt,
+            &[2, 2, 2, 0, 3, 0, 2, 2, 3, 0, 0],
+            "{p1(X0, a1), p1(a1, X0)}",
+        )?;
+        tidies(&rt, &[0], "{}")
+    }
+
+    fn joins(
+        rt: &(impl Abort + AllocGlobal),
+        first: &[u8],
+        second: &[u8],
+        text: &str,
+    ) -> Result<(), Fail> {
+        let mut record = read_record(first)?;
+        record.join(&read_record(second)?)?;
+        shows(rt, &record, text)
+    }
+
+    #[test]
+    fn records_are_joined(rt: HostRuntime) -> Result<(), Fail> {
+        // {p1(f5(a1), f5(X0)), p1(f5(X0), f6(a1)), q2(a1)} and {p1(f5(a2), X0), p1(X1, f6(a2))}
+        joins(
+            &rt,
+            &[
+                3, 2, 2, 11, 1, 3, 0, 11, 1, 0, 2, 2, 11, 1, 0, 13, 1, 3, 0, 4, 1, 3, 0,
+            ],
+            &[2, 2, 2, 11, 1, 5, 0, 0, 2, 2, 2, 13, 1, 5, 0],
+            "{p1(f5(X0), X1), p1(X2, f6(X0))}",
+        )?;
+        // {q2(X0), p1(a1)} and {r3(a2), s4(f5(a1))}
+        joins(
+            &rt,
+            &[2, 4, 1, 0, 2, 1, 3, 0],
+            &[2, 6, 1, 5, 0, 8, 1, 11, 1, 3, 0],
+            "{}",
+        )
+    }
+
+    // A ring: p1 round `count` constants, which are numbered from `first` on.
+    fn ring(count: u8, first: u8) -> Result<Record, Fail>
+        requires { (count ≤ 16) × (first ≤ 32) }
+    {
+        let mut packed: Bounded<u8, 97> = Bounded::new(0);
+        packed.push(count)?;
+        for k in 0..count {
+            let next = if k + 1 == count { 0 } else { k + 1 };
+            for byte in [2, 2, 2 * (first + k) + 1, 0, 2 * (first + next) + 1, 0] {
+                packed.push(byte)?;
+            }
+        }
+        read_record(packed.as_slice())
+    }
+
+    // Two rings without a common constant join to so many literals.
+    fn rings_join(rt: &impl Abort, one: u8, other: u8, literals: usize) -> Result<(), Fail>
+        requires { (one ≤ 16) × (other ≤ 16) }
+    {
+        let left = ring(one, 1)?;
+        let right = ring(other, 17)?;
+        let mut joined = left;
+        joined.join(&right)?;
+        assert_eq!(rt; joined.starts().len(), literals);
+        assert!(rt; joined.covers(&left));
+        assert!(rt; joined.covers(&right));
+        Ok(())
+    }
+
+    // Or the join is refused, and both are as they were.
+    fn rings_are_refused(rt: &impl Abort, one: u8, other: u8) -> Result<(), Fail>
+        requires { (one ≤ 16) × (other ≤ 16) }
+    {
+        let mut left = ring(one, 1)?;
+        let right = ring(other, 17)?;
+        let before = (written(&left)?, written(&right)?);
+        assert_eq!(rt; left.join(&right), Err(Refusal { number: 11 }));
+        assert_eq!(rt; written(&left)?, before.0);
+        assert_eq!(rt; written(&right)?, before.1);
+        Ok(())
+    }
+
+    // Its packed form, and 9s.
+    fn written(record: &Record) -> Result<[u8; 97], Fail> {
+        let mut out = [9; 97];
+        record.write(&mut out)?;
+        Ok(out)
+    }
+
+    #[test]
+    fn rings_of_3_and_5_join(rt: HostRuntime) -> Result<(), Fail> {
+        rings_join(&rt, 3, 5, 15)
+    }
+
+    #[test]
+    fn rings_of_8_and_16_join(rt: HostRuntime) -> Result<(), Fail> {
+        rings_join(&rt, 8, 16, 16)
+    }
+
+    #[test]
+    fn rings_of_2_and_9_are_refused(rt: HostRuntime) -> Result<(), Fail> {
+        rings_are_refused(&rt, 2, 9)
+    }
+
+    #[test]
+    fn rings_of_16_and_15_are_refused(rt: HostRuntime) -> Result<(), Fail> {
+        rings_are_refused(&rt, 16, 15)
+    }
+
+    #[test]
+    fn a_class_gathers_records(rt: HostRuntime) -> Result<(), Fail> {
+        // {p1(a1), p1(X0)}
+        let mut class = generaliser::begin(read_record(&[2, 2, 1, 3, 0, 2, 1, 0])?);
+        assert!(rt; class.fits(&read_record(&ONE)?));
+        // {p1(a2)}
+        let other = read_record(&[1, 2, 1, 5, 0])?;
+        assert!(rt; !class.fits(&other));
+        class.admit(&other)?;
+        // covered by then
+        class.admit(&read_record(&MET)?)?;
+        let issued = class.issue();
+        assert!(rt; issued.fits(&read_record(&MISSED)?));
+        assert!(rt; !issued.fits(&read_record(&PAIR)?));
+        assert_eq!(rt; issued.count(), 3);
+        let (rule, _) = issued.into_parts();
+        shows(&rt, &rule, "{p1(X0)}")
+    }
+
+    #[test]
+    fn a_rejection_leaves_the_rule(rt: HostRuntime) -> Result<(), Fail> {
+        let first = ring(2, 1)?;
+        let mut class = generaliser::begin(first);
+        let large = ring(9, 17)?;
+        assert_eq!(rt; class.admit(&large), Err(Refusal { number: 11 }));
+        assert!(rt; class.fits(&first));
+        assert!(rt; !class.fits(&large));
+        let (rule, count) = class.issue().into_parts();
+        assert_eq!(rt; count, 1);
+        assert_eq!(rt; written(&rule)?, written(&first)?);
         Ok(())
     }
 }
