@@ -1,9 +1,9 @@
 -- The rule of a class of records is smallest, and settled by what was taken.
-use Rattle.std.proofs.Common.{◌≡◌, List, [], ◌∷◌, map, All, Contains, inl, inr, subst}
+use Rattle.std.proofs.Common.{List, [], ◌∷◌, map, All, Contains, inl, inr, subst}
 use Rattle.std.proofs.lemmas.List.Elements.{All-head, All-tail}
 use Rattle.class.specs.declared.classes.Class.{Class}
 use Rattle.class.specs.Calls.{Begun}
-use Rattle.class.specs.Kinds.{Over, Least}
+use Rattle.class.specs.Kinds.{Over}
 use Rattle.class.specs.Runs.{rule, taken, Holds, State}
 use Rattle.class.proofs.Lawful.{law}
 use Rattle.clauses.specs.Clauses.{Covers}
@@ -14,7 +14,7 @@ use Rattle.term.specs.Words.{Word}
 use Rattle.record.specs.declared.clause.Record.{Record}
 use Rattle.record.specs.Kind.{AnyClause, records, laws}
 use Rattle.record.specs.Records.{clause}
-use Rattle.generaliser.specs.Law.{Smallest, SameTaken, Settled, RecordLaw}
+use Rattle.generaliser.specs.Law.{Smallest, Settled, RecordLaw}
 
 abbrev bare : List AnyClause → List (List Word)
 bare ms = map (λ m. m.0) ms

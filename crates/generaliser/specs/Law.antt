@@ -1,11 +1,11 @@
 -- The law of a class of records, whole.
-use Rattle.std.specs.Prelude.{ℕ, ◌≤◌, List, [], ◌∷◌, length, map, All, Contains, sum_by}
+use Rattle.std.specs.Prelude.{◌≤◌, List, [], ◌∷◌, length, map, All, Contains, sum_by}
 use Rattle.class.specs.declared.classes.Class.{Class}
 use Rattle.class.specs.Calls.{Begun}
 use Rattle.class.specs.Kinds.{Least}
 use Rattle.class.specs.Runs.{Call, State, gathers, rule, Run, taken, Answered, Holds}
 use Rattle.clauses.specs.Variants.{Variant}
-use Rattle.term.specs.Words.{Word, size}
+use Rattle.term.specs.Words.{size}
 use Rattle.record.specs.declared.clause.Record.{Record}
 use Rattle.record.specs.Kind.{AnyClause, records}
 use Rattle.record.specs.Records.{clause}

@@ -1,5 +1,6 @@
 // Gathers the records of one class into the rule that they share.
 #![tactic(auto)]
+
 ghost use Rattle.class.specs.Calls.{Begun};
 ghost use Rattle.record.specs.Kind.{records};
 ghost use Rattle.generaliser.specs.Law.{RecordLaw};

@@ -1,5 +1,5 @@
 -- Where tidying begins, and where it ends.
-use Rattle.std.proofs.Common.{◌≡◌, ℕ, ◌<◌, List, [], ◌++◌, length, get_or, drop, Contains, sym, ◌∙◌, ap, append-nil, subst, arith}
+use Rattle.std.proofs.Common.{◌≡◌, ℕ, ◌<◌, List, [], ◌++◌, length, drop, sym, ◌∙◌, ap, append-nil, subst, arith}
 use Rattle.std.proofs.lemmas.List.{drop_all}
 use Rattle.term.specs.Words.{Word}
 use Rattle.clauses.specs.Reduction.{Tidies, done}

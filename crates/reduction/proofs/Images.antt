@@ -1,8 +1,8 @@
 -- Whether a literal can be dropped, by what the clause was last turned into.
-use Rattle.std.proofs.Common.{◌≡◌, ◌≢◌, ℕ, ◌+◌, ◌-◌, ◌<◌, ◌≤◌, List, length, drop, get_or, ◌++◌, All, Contains, Option, sym, ap, ◌∙◌, subst, inl, inr, arith}
+use Rattle.std.proofs.Common.{◌≡◌, ◌≢◌, ℕ, ◌+◌, ◌-◌, ◌<◌, List, length, drop, get_or, All, Contains, sym, ap, ◌∙◌, subst, inl, inr, arith}
 use Rattle.std.proofs.lemmas.Bool.{cases_lt}
 use Rattle.std.proofs.lemmas.List.{length-drop, get_or-drop, get_or_default}
-use Rattle.std.proofs.lemmas.List.Elements.{All-contains, Contains-append_left, Contains-append_right, Contains-get_or}
+use Rattle.std.proofs.lemmas.List.Elements.{Contains-append_left, Contains-append_right}
 use Rattle.term.specs.Words.{Word, var, sub}
 use Rattle.clauses.specs.Clauses.{Covers}
 use Rattle.clauses.proofs.Coverings.{covers-part, covers-through, removed-covers}
@@ -59,11 +59,14 @@ module _ (C : List Word) (i : ℕ) (kept : List Word) (lt : i < length C) (gone 
 
     -- a literal without which some choice works
     pub spare-drops : (choice : ℕ → ℕ) → ChoosesOutside after I C choice → Covers H R
-    spare-drops choice c = covers-through H I R image.covered (c.0, λ k e h.
-        let d = c.1 k h in
-        let u : sub c.0 (get_or I k e) ≡ get_or C (choice k) (var 0) = ap (sub c.0) (get_or_default I k e (var 0) h) ∙ sym d.2 in
-        outside-rest C i kept lt gone p after here others (sub c.0 (get_or I k e))
-        (choice k, d.0, d.1, get_or_default C (choice k) (sub c.0 (get_or I k e)) (var 0) d.0 ∙ sym u))
+    spare-drops choice c = covers-through H I R image.covered (
+      c.0,
+      λ k e h.
+          let d = c.1 k h in
+          let u : sub c.0 (get_or I k e) ≡ get_or C (choice k) (var 0) = ap (sub c.0) (get_or_default I k e (var 0) h) ∙ sym d.2 in
+          outside-rest C i kept lt gone p after here others (sub c.0 (get_or I k e))
+          (choice k, d.0, d.1, get_or_default C (choice k) (sub c.0 (get_or I k e)) (var 0) d.0 ∙ sym u),
+    )
 
     -- and what that choice turned the literals into
     pub spare-image : (choice : ℕ → ℕ) → ChoosesOutside after I C choice → (next : List ℕ) (J : List Word)
@@ -71,9 +74,12 @@ module _ (C : List Word) (i : ℕ) (kept : List Word) (lt : i < length C) (gone 
         → ((w : Word) → Contains J w → (k : ℕ) × (k < length I) × (bit_at next (choice k) ≡ 1) × (get_or C (choice k) w ≡ w))
         → Image C R next after J
     spare-image choice c next J all only = record {
-      covered = covers-through R H J rest-covers (covers-through H I J image.covered (c.0, λ k e h.
-          let d = c.1 k h in
-          let u : sub c.0 (get_or I k e) ≡ get_or C (choice k) (var 0) = ap (sub c.0) (get_or_default I k e (var 0) h) ∙ sym d.2 in
-          subst (Contains J) (sym u) (all k h)));
+      covered = covers-through R H J rest-covers (covers-through H I J image.covered (
+        c.0,
+        λ k e h.
+            let d = c.1 k h in
+            let u : sub c.0 (get_or I k e) ≡ get_or C (choice k) (var 0) = ap (sub c.0) (get_or_default I k e (var 0) h) ∙ sym d.2 in
+            subst (Contains J) (sym u) (all k h),
+      ));
       places = λ w j. let s = only w j in let d = c.1 s.0 s.1 in (choice s.0, d.0, s.2, d.1, s.3);
     }

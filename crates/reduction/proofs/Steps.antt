@@ -1,11 +1,11 @@
 -- The steps of tidying: a literal is dropped, or it is kept.
-use Rattle.std.proofs.Common.{◌≡◌, ◌≢◌, ℕ, suc, ◌+◌, ◌-◌, ◌<◌, ◌≤◌, List, [], ◌∷◌, ◌++◌, length, drop, get_or, remove, Contains, inl, inr, sym, refl, ap, ap₂, ◌∙◌, subst, append_assoc, arith, length-append}
+use Rattle.std.proofs.Common.{◌≡◌, ◌≢◌, ℕ, suc, ◌+◌, ◌-◌, ◌<◌, List, [], ◌∷◌, ◌++◌, length, drop, get_or, remove, Contains, inl, inr, sym, refl, ap, ap₂, ◌∙◌, subst, append_assoc, arith, length-append}
 use Rattle.std.proofs.lemmas.Bool.{cases_lt}
 use Rattle.std.proofs.lemmas.List.{take_at, drop_at, drop_more, length-drop, length_push, get_or-drop, get_or_default}
-use Rattle.std.proofs.lemmas.List.Elements.{Contains-append_left, Contains-append_right, Contains-append_cases, Contains-push, Contains-push_cases, Contains-get_or}
+use Rattle.std.proofs.lemmas.List.Elements.{Contains-append_left, Contains-append_right, Contains-append_cases, Contains-push, Contains-push_cases}
 use Rattle.term.specs.Words.{Word, var}
 use Rattle.clauses.specs.Clauses.{Covers}
-use Rattle.clauses.specs.Reduction.{Tidies, drops, keeps}
+use Rattle.clauses.specs.Reduction.{drops, keeps}
 use Rattle.clauses.proofs.Reductions.{after-drop, after-keep}
 use Rattle.subsume.specs.Bits.{bit_at}
 use Rattle.subsume.specs.FirstChoices.{Outside}

@@ -1,19 +1,17 @@
 -- The turn of a literal, by where it begins.
-use Rattle.std.proofs.Common.{◌≡◌, ◌≢◌, ℕ, ◌+◌, ◌<◌, ◌≤◌, List, [], ◌∷◌, ◌++◌, length, get_or, take, drop, map, All, Contains, sym, refl, ap, ◌∙◌, subst, ⊎_elim, length-append, arith}
+use Rattle.std.proofs.Common.{◌≡◌, ◌≢◌, ℕ, ◌+◌, ◌<◌, List, [], ◌∷◌, ◌++◌, length, get_or, drop, All, sym, ap, ◌∙◌, subst, ⊎_elim, length-append, arith}
 use Rattle.std.proofs.lemmas.Bool.{cases_eq}
 use Rattle.std.proofs.lemmas.List.{get_or-map, length-map, map-append, length-take, length_push}
 use Rattle.term.specs.Coding.{word_at}
 use Rattle.term.specs.Words.{Word, var, sub}
 use Rattle.term.specs.declared.node.Node.{Node}
 use Rattle.clauses.specs.Clauses.{Covers, literals_at}
-use Rattle.clauses.specs.Reduction.{Tidies}
 use Rattle.clauses.proofs.Reductions.{tidies-front}
 use Rattle.subsume.specs.Bits.{bit_at}
-use Rattle.subsume.specs.Choices.{picked}
 use Rattle.subsume.specs.FirstChoices.{Outside, ChoosesOutside}
 use Rattle.reduction.specs.Progress.{Progress, Image}
-use Rattle.reduction.specs.Tidyings.{Standing, Taken, TooMany}
-use Rattle.reduction.proofs.Steps.{hand, rest, literal, hand-pushed, keep-step, drop-step}
+use Rattle.reduction.specs.Tidyings.{Taken, TooMany}
+use Rattle.reduction.proofs.Steps.{literal, hand-pushed, keep-step, drop-step}
 use Rattle.reduction.proofs.Images.{free-drops, free-image, needed-stays, spare-drops, spare-image}
 
 module _ (nodes : List Node) (S : List ℕ) (starts : List ℕ) (i : ℕ) (h : i < length S) (gone mapped : List ℕ) (I : List Word) where

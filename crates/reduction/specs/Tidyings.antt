@@ -63,4 +63,3 @@ Passed nodes C I at (WasShrunk next picks) d =
 abbrev pub Leaves : List Node → (C : List Word) → Option (Bounded ℕ 16) → Type 0
 Leaves nodes C (Some starts) = Tidies 0 C (literals_at nodes (elems starts)) × All (λ s. s < length nodes) (elems starts)
 Leaves nodes C None = TooMany C
-

@@ -179,4 +179,3 @@ fn whole(clause: View<'_>) -> (Bounded<usize, LITERALS>, BitSet<4>)
     }
     (starts, places)
 }
-

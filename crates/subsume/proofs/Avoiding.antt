@@ -124,4 +124,3 @@ module _ (N : List Node) (S : List ℕ) (M : List Node) (T : List ℕ) (gone : L
       → MatchOption o ((θ : ℕ → Word) → All (λ l. Outside gone other (sub θ l)) one → ⊥) (λ made. ChoosesOutside gone one other (picked made))
   chosen-outside sets picks (Some made) spared clear h out none = found-outside made h.0 h.1 (out gone clear)
   chosen-outside sets picks None spared clear h out none = none-outside sets spared (none refl)
-

@@ -27,4 +27,3 @@ abbrev pub ChoosesOutside : (gone : List ℕ) → (one other : List Word) → (c
 ChoosesOutside gone one other choice =
     (θ : ℕ → Word) × ((i : ℕ) → i < length one
     → (choice i < length other) × (bit_at gone (choice i) ≡ 0) × (slice_index_or other (choice i) (var 0) ≡ sub θ (slice_index_or one i (var 0))))
-

@@ -1,4 +1,4 @@
-use Rattle.std.proofs.Common.{◌≤◌, length}
+use Rattle.std.proofs.Common.{length}
 use Rattle.clauses.specs.Clauses.{literals_at}
 use Rattle.reduction.specs.Tidyings.{Inside, Standing}
 use Rattle.reduction.proofs.tidying.pass.Given as goal

@@ -1,4 +1,4 @@
-use Rattle.std.proofs.Common.{◌≡◌, ℕ, ◌+◌, ◌<◌, List, length, get_or, None, unwrap_or, sym, ap, ◌∙◌, subst, arith}
+use Rattle.std.proofs.Common.{◌≡◌, ℕ, ◌+◌, ◌<◌, get_or, None, unwrap_or, sym, ap, ◌∙◌, subst, arith}
 use Rattle.std.proofs.lemmas.List.{get_or-take, length-take}
 use Rattle.bounded.specs.declared.list.Bounded.{Bounded}
 use Rattle.bounded.specs.Elems.{elems}
@@ -28,7 +28,7 @@ loop-pick-preserved c =
           let pushed = pushed_room 256 (get_or a.starts.now j 0) starts w.push.result (elems w.push.new.self) w.push.ensures (omega (arith, g.few, c.requires.few.1)) in
           next w.include.new.self w.push.new.self w.mapped-is w.image-is
           (rw (pushed, is) (gathered-new a.nodes.now a.starts.now choice k mapped starts g w.include.new.self.words (c.requires.chosen k within)
-              (λ s e. rw e (a.inside (choice k) (c.requires.chosen k within))) (rw is at w.include.ensures.here) (rw is at w.include.ensures.others)))
+          (λ s e. rw e (a.inside (choice k) (c.requires.chosen k within))) (rw is at w.include.ensures.here) (rw is at w.include.ensures.others)))
       | else-not-test w ↦
           next c.loop-pick.mapped c.loop-pick.image w.mapped-is w.image-is
           (gathered-again a.nodes.now a.starts.now choice k mapped starts g (rw is at (c.test.ensures.0 w.if-not-test.false)))

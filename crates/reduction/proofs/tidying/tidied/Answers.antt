@@ -1,11 +1,11 @@
-use Rattle.std.proofs.Common.{◌≡◌, ℕ, ◌<◌, List, ◌++◌, length, All, drop, map, sym, ap, ◌∙◌, subst, arith}
+use Rattle.std.proofs.Common.{◌≡◌, ℕ, ◌<◌, List, ◌++◌, length, All, drop, sym, ap, ◌∙◌, subst, arith}
 use Rattle.std.proofs.lemmas.List.{length-map, get_or_default}
 use Rattle.std.proofs.lemmas.List.Elements.{All-nil}
 use Rattle.bounded.specs.Elems.{elems}
 use Rattle.clauses.specs.Clauses.{literals_at}
 use Rattle.subsume.specs.Choices.{picked}
 use Rattle.term.specs.Coding.{word_at}
-use Rattle.reduction.specs.Progress.{Progress, Image}
+use Rattle.reduction.specs.Progress.{Image}
 use Rattle.reduction.specs.Tidyings.{kept, Taken}
 use Rattle.reduction.proofs.Ends.{begun, begun-image, ended}
 use Rattle.reduction.proofs.tidying.tidied.Goals as goal
