@@ -94,6 +94,7 @@ fn pass(
     decided: &mut Decided,
 ) -> Outcome
     requires few { (length clause.starts.now ≤ LITERALS) × (length image.starts.now ≤ LITERALS) }
+    requires small { length clause.nodes.now ≤ VARIABLES }
     requires same { image.nodes.now ≡ clause.nodes.now }
     requires variables { Below VARIABLES clause.nodes.now }
     requires inside { Inside (length clause.nodes.now) decided.old }
@@ -101,7 +102,7 @@ fn pass(
     ensures inside { Inside (length clause.entry.nodes.now) decided.new }
     ensures passed { Passed clause.entry.nodes.now (literals_at clause.entry.nodes.now clause.entry.starts.now) (literals_at image.entry.nodes.now image.entry.starts.now) at result decided.new }
 {
-    let table = Table::<LITERALS, SLOTS>::link(image, clause);
+    let table = Table::<LITERALS, SLOTS>::link::<VARIABLES>(image, clause);
     let start = table.start();
     for i in at..clause.len() {
         match decided.turn(clause, &table, &start, mapped, i) {
@@ -140,6 +141,7 @@ fn targets(
 // to the last is dropped where those still kept cover what is left of them without it.
 pub fn tidied(clause: View<'_>) -> Option<Bounded<usize, 16>>
     requires few { length clause.starts.now ≤ LITERALS }
+    requires small { length clause.nodes.now ≤ VARIABLES }
     requires variables { Below VARIABLES clause.nodes.now }
     ensures { Leaves clause.entry.nodes.now (literals_at clause.entry.nodes.now clause.entry.starts.now) result }
 {

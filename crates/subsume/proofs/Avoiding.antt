@@ -10,8 +10,8 @@ use Rattle.term.specs.declared.node.Node.{Node}
 use Rattle.subsume.specs.declared.bits.BitSet.{BitSet}
 use Rattle.subsume.specs.declared.slot.Slot.{Slot}
 use Rattle.subsume.specs.Bits.{bit_at}
-use Rattle.subsume.specs.Choices.{left, row, pick, picked, Among, Fewer, Removed, Pruned, Picked, Made, Clear, Avoids}
-use Rattle.subsume.specs.Meeting.{label_of}
+use Rattle.subsume.specs.Choices.{left, row, pick, picked, Fewer, Removed, Pruned, Picked, Made, Clear, Avoids}
+use Rattle.subsume.specs.Meeting.{place_of}
 use Rattle.subsume.specs.Solving.{TurnsAt, Works, Linked, Hopeful, Spared, SparedOutside}
 use Rattle.subsume.specs.FirstChoices.{Outside, ChoosesOutside}
 use Rattle.subsume.proofs.Pruning.{row-set_same, row-set_other}
@@ -77,7 +77,7 @@ module _ (N : List Node) (S : List ℕ) (M : List Node) (T : List ℕ) (gone : L
 
   pub cut-spared : {C : ℕ} (slots : List (Slot C)) → Linked N S M T slots → Pruned slots (length S) (length T) mid after → Spared N S M T before → SparedOutside N S M T gone after
   cut-spared slots linked p spared f inside w =
-      p.keeps f (λ x. label_of (w.0 x)) (fits-works N S M T slots f linked (λ k h. (inside k h).0) w)
+      p.keeps f (λ x. place_of M (w.0 x)) (fits-works N S M T slots f linked (λ k h. (inside k h).0) w)
       (λ k h. let a = spared f (λ l g. (inside l g).0) w k h in (a.0, (c.done k (omega arith)).kept (f k) a.0 a.1 (inside k h).1))
 
 -- a choice of targets that are not gone, by the literals

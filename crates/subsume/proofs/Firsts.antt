@@ -14,7 +14,7 @@ use Rattle.subsume.specs.declared.bits.BitSet.{BitSet}
 use Rattle.subsume.specs.declared.slot.Slot.{Slot}
 use Rattle.subsume.specs.Bits.{bit_at}
 use Rattle.subsume.specs.Choices.{left, slot_at, Among, Fits, Taken, Picked}
-use Rattle.subsume.specs.Meeting.{label_of}
+use Rattle.subsume.specs.Meeting.{place_of}
 use Rattle.subsume.specs.Solving.{TurnsAt, Works, Linked, Hopeful, Spared}
 use Rattle.subsume.specs.Steps.{Begins, NoneFrom, FirstFrom, Begun}
 use Rattle.subsume.specs.FirstChoices.{Chooses, NoLater, FirstChoice}
@@ -72,11 +72,11 @@ module _ (N : List Node) (S : List ℕ) (M : List Node) (T : List ℕ) where
             (λ s. ap (λ (ws : List ℕ). bit_at ws (f k)) (t.others k s) ∙ a.1)
             (cases_eq k i),
       ) in
-      let fits : Fits slots f (λ x. label_of (w.0 x)) = λ s inside.
+      let fits : Fits slots f (λ x. place_of M (w.0 x)) = λ s inside.
       let l = linked s inside in
       let k = (slot_at slots s).literal in
       l.1 (f k) (among k l.0).0 w.0 (w.1 k l.0) in
-      t.pruned.keeps f (λ x. label_of (w.0 x)) fits narrow
+      t.pruned.keeps f (λ x. place_of M (w.0 x)) fits narrow
 
   pub begun-more : {C : ℕ} (slots : List (Slot C)) (front longer : List ℕ) (sets last : List (BitSet 4)) (picks picks' : List (Option ℕ)) (j : ℕ) → Linked N S M T slots
       → Taken slots (length S) (length T) sets (length front) j last → Begun N S M T front sets picks → Picked last (length S) (length T) picks' → length front < length S → j < length T → longer ≡ front ++ j ∷ []

@@ -1,3 +1,4 @@
+mod Marking
 mod Covered
 mod Sets
 mod Pruning
@@ -10,3 +11,4 @@ pub mod Choosing
 mod Firsts
 mod Walking
 pub mod Avoiding
+mod FirstPlaces

@@ -10,7 +10,7 @@ use Rattle.term.proofs.Codings.{at_words}
 use Rattle.term.proofs.Matchings.{turns-variable}
 use Rattle.subsume.specs.declared.slot.Slot.{Slot}
 use Rattle.subsume.specs.Choices.{no_slot, slot_at}
-use Rattle.subsume.specs.Meeting.{label_of}
+use Rattle.subsume.specs.Meeting.{place_of}
 use Rattle.subsume.specs.Solving.{TurnsAt, Named, Linked, Gives, Ruled}
 
 pub variable-at : (nodes : List Node) (p x : ℕ) → p < length nodes → get_or nodes p (Variable 0) ≡ Variable x → word_at nodes p ≡ var x
@@ -18,10 +18,10 @@ variable-at nodes p x h e = ap hd (at_words nodes p (Variable 0) h) ∙ turns-va
 
 module _ (N : List Node) (S : List ℕ) (M : List Node) (T : List ℕ) {C : ℕ} where
   pub linked-more : (slots : List (Slot C)) (slot : Slot C) → Linked N S M T slots → slot.literal < length S
-      → ((j : ℕ) → j < length T → (θ : ℕ → Word) → TurnsAt N S M T θ slot.literal j → get_or slot.labels j 0 ≡ label_of (θ slot.variable))
+      → ((j : ℕ) → j < length T → (θ : ℕ → Word) → TurnsAt N S M T θ slot.literal j → get_or slot.labels j 0 ≡ place_of M (θ slot.variable))
       → Linked N S M T (slots ++ slot ∷ [])
   linked-more slots slot linked own right s h =
-      let P : Slot C → Type 0 = λ (z : Slot C). (z.literal < length S) × ((j : ℕ) → j < length T → (θ : ℕ → Word) → TurnsAt N S M T θ z.literal j → get_or z.labels j 0 ≡ label_of (θ z.variable)) in
+      let P : Slot C → Type 0 = λ (z : Slot C). (z.literal < length S) × ((j : ℕ) → j < length T → (θ : ℕ → Word) → TurnsAt N S M T θ z.literal j → get_or z.labels j 0 ≡ place_of M (θ z.variable)) in
       ⊎_elim
       (λ (e : s ≡ length slots).
       let here : slot_at (slots ++ slot ∷ []) s ≡ slot = get_or_push slots slot (no_slot C) s (sym e) in
@@ -35,16 +35,18 @@ module _ (N : List Node) (S : List ℕ) (M : List Node) (T : List ℕ) {C : ℕ}
 module _ (N : List Node) (S : List ℕ) (M : List Node) (T : List ℕ) where
   -- targets that give the variable another word than the literal's slot has
   pub ruled-by : (i x : ℕ) (before after : List (Option ℕ)) (labels others : List ℕ) → Gives N S M T i x before
-      → ((j q : ℕ) → get_or before j None ≡ Some q → get_or labels j 0 ≡ label_of (word_at M q)) → Named N S M T i x others
-      → ((j : ℕ) → (get_or after j None ≡ get_or before j None) ⊎ ((get_or after j None ≡ None) × (get_or labels j 0 ≢ get_or others j 0)))
+      → ((j q : ℕ) → get_or before j None ≡ Some q → get_or labels j 0 ≡ place_of M (word_at M q)) → Named N S M T i x others
+      → length before ≡ length T
+      → ((j : ℕ) → get_or labels j 0 ≡ get_or others j 0 → get_or after j None ≡ get_or before j None)
+      → ((j : ℕ) → j < length before → get_or labels j 0 ≢ get_or others j 0 → get_or after j None ≡ None)
       → Ruled N S M T i before after
-  ruled-by i x before after labels others gives told named agreed j h = ruled (get_or before j None) refl (agreed j)
+  ruled-by i x before after labels others gives told named size same ended j h =
+      ⊎_elim (λ (e : get_or labels j 0 ≡ get_or others j 0). inl (same j e)) (λ n. ruled n (ended j (omega (arith, size, h)) n) (get_or before j None) refl) (cases_eq (get_or labels j 0) (get_or others j 0))
     where
-      ruled : (o : Option ℕ) → get_or before j None ≡ o → (get_or after j None ≡ get_or before j None) ⊎ ((get_or after j None ≡ None) × (get_or labels j 0 ≢ get_or others j 0))
+      ruled : get_or labels j 0 ≢ get_or others j 0 → get_or after j None ≡ None → (o : Option ℕ) → get_or before j None ≡ o
           → (get_or after j None ≡ get_or before j None) ⊎ ((get_or after j None ≡ None) × ((θ : ℕ → Word) → TurnsAt N S M T θ i j → ⊥))
-      ruled o e (inl same) = inl same
-      ruled None e (inr r) = inl (r.0 ∙ sym e)
-      ruled (Some q) e (inr r) = inr (
-        r.0,
-        λ θ t. r.1 (told j q e ∙ ap label_of (sym (((gives j h).0 q e).1 θ t)) ∙ sym (named j h θ t)),
+      ruled n r None e = inl (r ∙ sym e)
+      ruled n r (Some q) e = inr (
+        r,
+        λ θ t. n (told j q e ∙ ap (place_of M) (sym (((gives j h).0 q e).1 θ t)) ∙ sym (named j h θ t)),
       )

@@ -1,11 +1,11 @@
 -- What is struck out by marks is taken by no choice that agrees with the table.
-use Rattle.std.proofs.Common.{◌≡◌, ℕ, ◌%◌, ◌<◌, ◌≤◌, List, length, get_or, set, take, sym, ap, ◌∙◌, subst, ⊎_elim, arith}
+use Rattle.std.proofs.Common.{◌≡◌, ℕ, ◌<◌, ◌≤◌, List, length, get_or, set, take, sym, ap, ◌∙◌, subst, ⊎_elim, arith}
 use Rattle.std.proofs.lemmas.List.{get_or-set_same, get_or-set_other, get_or_read, get_or_default, get_or-take, length-take-le}
 use Rattle.std.proofs.lemmas.Bool.{cases_eq}
 use Rattle.subsume.specs.declared.bits.BitSet.{BitSet}
 use Rattle.subsume.specs.declared.slot.Slot.{Slot}
 use Rattle.subsume.specs.Bits.{bit_at}
-use Rattle.subsume.specs.Choices.{none, row, left, slot_at, Fits, Pruned, Marked, Shared, Sifted}
+use Rattle.subsume.specs.Choices.{none, row, left, slot_at, Fits, Pruned, Shows, Marked, Shared, Sifted}
 
 -- an element that was read from a list
 pub item : {T : Type 0} (xs ys : List T) (i : ℕ) (x d : T) → xs ≡ ys → i < length xs → x ≡ get_or xs i x → get_or ys i d ≡ x
@@ -24,18 +24,26 @@ row-set_other c i k r n = ap (λ (z : BitSet 4). z.words) (get_or-set_other c i 
 -- marks by the first n labels
 module _ (labels : List ℕ) (n : ℕ) (few : n ≤ length labels) where
   pub marked-first : (words before marks : List ℕ) → Marked words (take n labels) (length (take n labels)) before marks → Marked words labels n before marks
-  marked-first words before marks m = λ k h e b.
+  marked-first words before marks m =
       let long = length-take-le n labels few in
-      let same = get_or-take n labels k 0 h in
-      subst (λ (l : ℕ). bit_at marks (l % 4096) ≡ 1) same (m k (omega (arith, long, h)) e (subst (λ (l : ℕ). bit_at before (l % 4096) ≡ 1) (sym same) b))
+      record {
+        shown = λ k h e b.
+            let same = get_or-take n labels k 0 h in
+            subst (Shows marks) same (m.shown k (omega (arith, long, h)) e (subst (Shows before) (sym same) b));
+        only = λ l b.
+            let o = m.only l b in
+            let h : o.1.0 < n = omega (arith, long, o.1.1) in
+            (o.0, (o.1.0, h, o.1.2, sym (get_or-take n labels o.1.0 0 h) ∙ o.1.3));
+      }
 
   pub sifted-first : (before after marks : List ℕ) → Sifted before after (take n labels) (length (take n labels)) marks → Sifted before after labels n marks
   sifted-first before after marks s =
       let long = length-take-le n labels few in
       record {
         outside = λ l h. s.outside l (omega (arith, long, h));
-        kept = λ i h e f. s.kept i (omega (arith, long, h)) e (subst (λ (l : ℕ). bit_at marks (l % 4096) ≡ 1) (sym (get_or-take n labels i 0 h)) f);
+        kept = λ i h e f. s.kept i (omega (arith, long, h)) e (subst (λ (l : ℕ). Shows marks l) (sym (get_or-take n labels i 0 h)) f);
         fewer = λ i h e. s.fewer i (omega (arith, long, h)) e;
+        marked = λ i h e. subst (Shows marks) (get_or-take n labels i 0 h) (s.marked i (omega (arith, long, h)) e);
       }
 
 module _ {N : ℕ} (slots : List (Slot N)) (m n : ℕ) where
@@ -58,9 +66,9 @@ module _ {N : ℕ} (slots : List (Slot N)) (m n : ℕ) where
     shared-more sets first before after own is-first marked shared = λ f v fits a.
         let e = told f v fits in
         let o = a slot.literal own in
-        subst (λ (l : ℕ). bit_at after (l % 4096) ≡ 1) (sym e)
-        (marked (f slot.literal) o.0 (ap (λ (ws : List ℕ). bit_at ws (f slot.literal)) (sym is-first) ∙ o.1)
-        (subst (λ (l : ℕ). bit_at before (l % 4096) ≡ 1) e (shared f v fits a)))
+        subst (λ (l : ℕ). Shows after l) (sym e)
+        (marked.shown (f slot.literal) o.0 (ap (λ (ws : List ℕ). bit_at ws (f slot.literal)) (sym is-first) ∙ o.1)
+        (subst (λ (l : ℕ). Shows before l) e (shared f v fits a)))
 
     pub sift-prunes : (start c : List (BitSet 4)) (before marks : List ℕ) (after : BitSet 4) → slot.literal < length c → row c slot.literal ≡ before
         → Shared slots m n start x marks → Pruned slots m n start c → Sifted before after.words slot.labels n marks
@@ -71,7 +79,7 @@ module _ {N : ℕ} (slots : List (Slot N)) (m n : ℕ) where
         record {
           keeps = λ f v fits a.
               let among = so_far.keeps f v fits a in
-              let shown : bit_at marks (get_or slot.labels (f k) 0 % 4096) ≡ 1 = subst (λ (l : ℕ). bit_at marks (l % 4096) ≡ 1) (told f v fits) (shared f v fits a) in
+              let shown : Shows marks (get_or slot.labels (f k) 0) = subst (λ (l : ℕ). Shows marks l) (told f v fits) (shared f v fits a) in
               λ i h.
               let y = among i h in (
                 y.0,
@@ -81,7 +89,7 @@ module _ {N : ℕ} (slots : List (Slot N)) (m n : ℕ) where
                     ∙ ap (λ (ws : List ℕ). bit_at ws (f i)) (row-set_same c k after inside)
                     ∙ sifted.kept (f i) y.0
                     (ap (λ (ws : List ℕ). bit_at ws (f i)) (sym is-before) ∙ ap (λ (l : ℕ). left c l (f i)) (sym e) ∙ y.1)
-                    (subst (λ (l : ℕ). bit_at marks (get_or slot.labels (f l) 0 % 4096) ≡ 1) (sym e) shown))
+                    (subst (λ (l : ℕ). Shows marks (get_or slot.labels (f l) 0)) (sym e) shown))
                     (λ e. ap (λ (ws : List ℕ). bit_at ws (f i)) (row-set_other c k i after e) ∙ y.1)
                     (cases_eq i k),
               );

@@ -6,7 +6,7 @@ use Rattle.subsume.specs.declared.bits.BitSet.{BitSet}
 use Rattle.subsume.specs.declared.slot.Slot.{Slot}
 use Rattle.subsume.specs.Bits.{bit_at}
 use Rattle.subsume.specs.Choices.{left, slot_at, picked, Among, Fits, Pruned, Taken, Made}
-use Rattle.subsume.specs.Meeting.{label_of}
+use Rattle.subsume.specs.Meeting.{place_of}
 use Rattle.subsume.specs.Solving.{Works, Linked, Open, Solved, Hopeful, Spared}
 
 module _ (N : List Node) (S : List ℕ) (M : List Node) (T : List ℕ) where
@@ -24,7 +24,7 @@ module _ (N : List Node) (S : List ℕ) (M : List Node) (T : List ℕ) where
 
   -- a choice that works agrees with the table
   pub fits-works : {C : ℕ} (slots : List (Slot C)) (f : ℕ → ℕ) → Linked N S M T slots → ((i : ℕ) → i < length S → f i < length T)
-      → (w : Works N S M T f) → Fits slots f (λ x. label_of (w.0 x))
+      → (w : Works N S M T f) → Fits slots f (λ x. place_of M (w.0 x))
   fits-works slots f linked inside w s h =
       let l = linked s h in
       let k = (slot_at slots s).literal in
@@ -34,7 +34,7 @@ module _ (N : List Node) (S : List ℕ) (M : List Node) (T : List ℕ) where
   pub spared : {C : ℕ} (slots : List (Slot C)) (before after : List (BitSet 4)) → Linked N S M T slots → Open N S M T before (length S)
       → Pruned slots (length S) (length T) before after → Spared N S M T after
   spared slots before after linked wide pruned f inside w =
-      pruned.keeps f (λ x. label_of (w.0 x)) (fits-works slots f linked inside w) (λ i h. (inside i h, wide i h (f i) (inside i h) w.0 (w.1 i h)))
+      pruned.keeps f (λ x. place_of M (w.0 x)) (fits-works slots f linked inside w) (λ i h. (inside i h, wide i h (f i) (inside i h) w.0 (w.1 i h)))
 
   -- the literal i takes the target j, and what is struck out by that is not wanted
   pub tried : {C : ℕ} (slots : List (Slot C)) (sets last : List (BitSet 4)) (i j : ℕ) → Linked N S M T slots → Taken slots (length S) (length T) sets i j last
@@ -54,7 +54,7 @@ module _ (N : List Node) (S : List ℕ) (M : List Node) (T : List ℕ) where
             (cases_eq k i),
       ) in
       let fits = fits-works slots f linked (λ k inside. (h.1 k inside).0) h.2 in
-      (f, t.pruned.keeps f (λ x. label_of (θ x)) fits narrow, h.2)
+      (f, t.pruned.keeps f (λ x. place_of M (θ x)) fits narrow, h.2)
 
   -- a choice that was found
   pub found : (o : Option (List (Option ℕ))) (r : Bool) → IfSome o (λ picks. Made picks (length S) (length T) × Works N S M T (picked picks)) → r ≡ is_some o → r ≡ true → Solved N S M T

@@ -1,12 +1,11 @@
 -- What is in a set of numbers after a word of it has changed, and its least number.
-use Rattle.std.proofs.Common.{◌≡◌, ℕ, ◌+◌, ◌-◌, ◌*◌, ◌/◌, ◌%◌, ◌^◌, ◌<◌, ◌≤◌, List, length, get_or, set, replicate, Some, None, ap, ◌∙◌, sym, ⊎_elim, arith}
-use Rattle.std.specs.Int.{w64, trailing_zeros, bit_at as bit}
-use Rattle.std.proofs.lemmas.Nat.Bits.{bit_at-zero, bit_at-trailing_zeros, bit_at_ones, bit_at_above}
+use Rattle.std.proofs.Common.{◌≡◌, ℕ, ◌+◌, ◌-◌, ◌*◌, ◌/◌, ◌%◌, ◌^◌, ◌<◌, ◌≤◌, List, length, get_or, set, replicate, Some, None, bit_and, ap, ◌∙◌, sym, ap₂, ⊎_elim, ◌≢◌, arith}
+use Rattle.std.specs.Int.{w64, trailing_zeros, bit_not, bit_at as bit}
+use Rattle.std.proofs.lemmas.Nat.Bits.{bit_at-zero, bit_at-trailing_zeros, bit_at_ones, bit_at_above, bit_at_clear_same, bit_at_clear_other}
 use Rattle.std.proofs.lemmas.List.{get_or-set_same, get_or-set_other, get_or-replicate, get_or_past, length-replicate}
-use Rattle.std.proofs.Math.Nat.{div-le_self}
-use Rattle.std.proofs.lemmas.Nat.{shr-shr}
+use Rattle.std.proofs.lemmas.Nat.{and_le_l}
 use Rattle.std.proofs.lemmas.Bool.{cases_eq, cases_lt}
-use Rattle.subsume.specs.Bits.{bit_at, First, FirstFrom}
+use Rattle.subsume.specs.Bits.{bit_at, First, Parted}
 
 module _ (words : List ℕ) (k v : ℕ) (inside : k < 64 * length words) where
   pub set_here : bit_at (set words (k / 64) v) k ≡ bit v (k % 64)
@@ -64,68 +63,47 @@ first-word words w h before some fits =
 pub no-first : (words : List ℕ) → ((v : ℕ) → v < length words → get_or words v 0 ≡ 0) → First words None
 no-first words none l h = empty-word words l (none (l / 64) (omega arith))
 
--- the same from a place on: in the word of that place, or in a later one
-bit-shifted : (n s i : ℕ) → bit (n / 2 ^ s) i ≡ bit n (s + i)
-bit-shifted n s i = ap (λ (x : ℕ). x % 2) (shr-shr n s i)
+-- a word without a bit
+abbrev pub cleared : (word k : ℕ) → ℕ
+cleared word k = bit_and word (bit_not w64 (1 * 2 ^ k % 2 ^ 64))
 
-module _ (words : List ℕ) (from : ℕ) (inside : from / 64 < length words) where
-  abbrev word : ℕ
-  word = get_or words (from / 64) 0
+module _ (word k : ℕ) (inside : k < 64) (fits : word < 2 ^ 64) where
+  pub cleared-here : bit (cleared word k) k ≡ 0
+  cleared-here = bit_at_clear_same w64 word k inside
 
-  abbrev rest : ℕ
-  rest = word / 2 ^ (from % 64)
-
-  pub first-here : 0 < rest → word < 2 ^ 64 → FirstFrom words from (Some (from + trailing_zeros w64 rest))
-  unfolding bit_at
-  first-here some small =
-      let fits : rest < 2 ^ 64 = omega (arith, small, div-le_self word (2 ^ (from % 64))) in
-      let t = trailing_zeros w64 rest in
-      let z = bit_at-trailing_zeros w64 rest some fits in
-      let here : bit word (from % 64 + t) ≡ 1 = sym (bit-shifted word (from % 64) t) ∙ z.1 in
-      let below : from % 64 + t < 64 =
-      ⊎_elim (λ h. h) (λ (h : 64 ≤ from % 64 + t). let zero : bit word (from % 64 + t) ≡ 0 = bit_at_above word 64 (from % 64 + t) small h in absurd (omega (arith, zero, here))) (cases_lt (from % 64 + t) 64) in (
-        omega arith,
-        omega (arith, below),
-        let w : (from + t) / 64 ≡ from / 64 = omega (arith, below) in
-            let p : (from + t) % 64 ≡ from % 64 + t = omega (arith, below) in
-            rw (w, p) here,
-        λ l h k.
-            let w : l / 64 ≡ from / 64 = omega (arith, below, h, k) in
-            let p : l % 64 ≡ from % 64 + (l - from) = omega (arith, below, h, k) in
-            rw (w, p) (sym (bit-shifted word (from % 64) (l - from)) ∙ z.2 (l - from) (omega (arith, h, k))),
-      )
-
-  none_here : rest ≡ 0 → (l : ℕ) → from ≤ l → l / 64 ≡ from / 64 → bit_at words l ≡ 0
-  unfolding bit_at
-  none_here e l h w =
-      let p : l % 64 ≡ from % 64 + (l - from) = omega (arith, h, w) in
-      rw (w, p) (sym (bit-shifted word (from % 64) (l - from)) ∙ ap (λ (x : ℕ). bit x (l - from)) e ∙ bit_at-zero (l - from))
-
-  pub first-later : rest ≡ 0 → (v : ℕ) → from / 64 < v → v < length words → ((u : ℕ) → from / 64 < u → u < v → get_or words u 0 ≡ 0) → 0 < get_or words v 0 → get_or words v 0 < 2 ^ 64
-      → FirstFrom words from (Some (64 * v + trailing_zeros w64 (get_or words v 0)))
-  unfolding bit_at
-  first-later e v later within none some fits =
-      let t = trailing_zeros w64 (get_or words v 0) in
-      let z = bit_at-trailing_zeros w64 (get_or words v 0) some fits in
-      let small : t < 64 = z.0 in (
-        omega arith,
-        omega arith,
-        let w : (64 * v + t) / 64 ≡ v = omega arith in
-            let p : (64 * v + t) % 64 ≡ t = omega arith in
-            rw (w, p) z.1,
-        λ l h k.
-            ⊎_elim
-            (λ (w : l / 64 ≡ from / 64). none_here e l h w)
-            (λ o. ⊎_elim
-            (λ (b : l / 64 < v). empty-word words l (none (l / 64) (omega (arith, h, o)) b))
-            (λ (b : v ≤ l / 64). let w : l / 64 ≡ v = omega (arith, b, k) in rw w (z.2 (l % 64) (omega (arith, b, k))))
-            (cases_lt (l / 64) v))
-            (cases_eq (l / 64) (from / 64)),
-      )
-
-  pub no-later : rest ≡ 0 → ((u : ℕ) → from / 64 < u → u < length words → get_or words u 0 ≡ 0) → FirstFrom words from None
-  no-later e none l h =
+  pub cleared-others : (l : ℕ) → l ≢ k → bit (cleared word k) l ≡ bit word l
+  cleared-others l n =
       ⊎_elim
-      (λ (w : l / 64 ≡ from / 64). none_here e l h w)
-      (λ o. ⊎_elim (λ (b : l / 64 < length words). empty-word words l (none (l / 64) (omega (arith, h, o)) b)) (λ b. none-past words l b) (cases_lt (l / 64) (length words)))
-      (cases_eq (l / 64) (from / 64))
+      (λ (h : l < 64). bit_at_clear_other w64 word k inside l h n)
+      (λ (h : 64 ≤ l). bit_at_above (cleared word k) 64 l (omega (arith, and_le_l word (bit_not w64 (1 * 2 ^ k % 2 ^ 64)), fits)) h ∙ sym (bit_at_above word 64 l fits h))
+      (cases_lt l 64)
+
+-- the least bit of a word, and the rest
+pub parted : (word : ℕ) → 0 < word → (fits : word < 2 ^ 64) → Parted word (trailing_zeros w64 word) (cleared word (trailing_zeros w64 word))
+parted word some fits =
+    let k = trailing_zeros w64 word in
+    let z = bit_at-trailing_zeros w64 word some fits in
+    let rest = cleared word k in
+    let gone : bit rest k ≡ 0 = cleared-here word k z.0 fits in
+    let other : rest ≢ word = λ e. omega (arith, gone, ap (λ (n : ℕ). bit n k) e, z.1) in
+    record {
+      inside = z.0;
+      here = z.1;
+      least = z.2;
+      gone = gone;
+      others = cleared-others word k z.0 fits;
+      less = omega (arith, and_le_l word (bit_not w64 (1 * 2 ^ k % 2 ^ 64)), other);
+    }
+
+-- a bit of one word of a set
+pub bit-of_word : (words : List ℕ) (w k : ℕ) → k < 64 → bit_at words (64 * w + k) ≡ bit (get_or words w 0) k
+unfolding bit_at
+bit-of_word words w k h =
+    let v : (64 * w + k) / 64 ≡ w = omega (arith, h) in
+    let p : (64 * w + k) % 64 ≡ k = omega (arith, h) in
+    ap₂ (λ (v p : ℕ). bit (get_or words v 0) p) v p
+
+-- the bits of the other words after a word has changed
+pub other-word : (words : List ℕ) (w v l : ℕ) → l / 64 ≢ w → bit_at (set words w v) l ≡ bit_at words l
+unfolding bit_at
+other-word words w v l n = ap (λ (x : ℕ). bit x (l % 64)) (get_or-set_other words w (l / 64) v 0 n)

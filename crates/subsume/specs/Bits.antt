@@ -1,5 +1,5 @@
 -- Bits of a list of words of 64.
-use Rattle.std.specs.Prelude.{◌≡◌, ℕ, ◌*◌, ◌/◌, ◌%◌, ◌<◌, ◌≤◌, List, length, slice_index, Some, None, Option, ◌≢◌}
+use Rattle.std.specs.Prelude.{◌≡◌, ℕ, ◌*◌, ◌/◌, ◌%◌, ◌<◌, List, length, slice_index, Some, None, Option, ◌≢◌}
 use Rattle.std.specs.Int.{bit_at as bit}
 
 -- 1 where k is in the set, else 0
@@ -11,10 +11,14 @@ abbrev pub First : List ℕ → Option ℕ → Type 0
 First words (Some k) = (k < 64 * length words) × (bit_at words k ≡ 1) × ((l : ℕ) → l < k → bit_at words l ≡ 0)
 First words None = (l : ℕ) → l < 64 * length words → bit_at words l ≡ 0
 
--- an answer is the least number in the set from `from` on; or none, where there is none
-abbrev pub FirstFrom : List ℕ → (from : ℕ) → Option ℕ → Type 0
-FirstFrom words from (Some k) = (from ≤ k) × (k < 64 * length words) × (bit_at words k ≡ 1) × ((l : ℕ) → from ≤ l → l < k → bit_at words l ≡ 0)
-FirstFrom words from None = (l : ℕ) → from ≤ l → bit_at words l ≡ 0
+-- k is the least bit of the word, and the rest are its other bits
+pub record Parted (word k rest : ℕ) : Type 0 where
+  pub inside : k < 64
+  pub here : bit word k ≡ 1
+  pub least : (l : ℕ) → l < k → bit word l ≡ 0
+  pub gone : bit rest k ≡ 0
+  pub others : (l : ℕ) → (l ≢ k) → bit rest l ≡ bit word l
+  pub less : rest < word
 
 -- an answer is the least number in the set, and is taken out; or none, where the set is empty, and nothing changes
 abbrev pub Popped : (before after : List ℕ) → Option ℕ → Type 0

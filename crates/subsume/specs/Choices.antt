@@ -1,5 +1,5 @@
 -- Choices of a target for each literal, and the candidates that are left.
-use Rattle.std.specs.Prelude.{◌≡◌, ℕ, suc, ◌%◌, ◌<◌, ◌≤◌, List, [], ◌∷◌, length, replicate, Some, None, Option, slice_index, slice_index_or, unwrap_or, ◌≢◌}
+use Rattle.std.specs.Prelude.{◌≡◌, ℕ, suc, ◌*◌, ◌<◌, ◌≤◌, List, [], ◌∷◌, length, replicate, Some, None, Option, slice_index, slice_index_or, unwrap_or, ◌≢◌}
 use Rattle.std.proofs.Common.{lit≤}
 use Rattle.std.proofs.lemmas.List.{length-replicate}
 use Rattle.subsume.specs.declared.bits.BitSet.{BitSet}
@@ -54,20 +54,25 @@ pub record Pruned {N : ℕ} (slots : List (Slot N)) (m n : ℕ) (before after : 
   pub keeps : (f v : ℕ → ℕ) → Fits slots f v → Among before m n f → Among after m n f
   pub fewer : Fewer before after m n
 
--- the labels of the first j targets, as far as they are in the set and were marked, are marked
-abbrev pub Marked : List ℕ → (labels : List ℕ) → (j : ℕ) → (before after : List ℕ) → Type 0
-Marked words labels j before after =
-    (k : ℕ) → k < j → bit_at words k ≡ 1 → bit_at before (slice_index labels k % 4096) ≡ 1 → bit_at after (slice_index labels k % 4096) ≡ 1
+-- the label is marked, or it is beyond those that can be
+abbrev pub Shows : (marks : List ℕ) → (label : ℕ) → Type 0
+Shows marks label = label < 64 * length marks → bit_at marks label ≡ 1
+
+-- of the labels marked before, just those are marked that one of the first j targets gives which is in the set
+pub record Marked (words labels : List ℕ) (j : ℕ) (before after : List ℕ) : Type 0 where
+  pub shown : (k : ℕ) → k < j → bit_at words k ≡ 1 → Shows before (slice_index labels k) → Shows after (slice_index labels k)
+  pub only : (l : ℕ) → bit_at after l ≡ 1 → (bit_at before l ≡ 1) × ((k : ℕ) × (k < j) × (bit_at words k ≡ 1) × (slice_index labels k ≡ l))
 
 -- the label that a choice gives the variable x is marked, where it agrees with the table
 abbrev pub Shared : {N : ℕ} → List (Slot N) → (m n : ℕ) → List (BitSet 4) → (x : ℕ) → (marks : List ℕ) → Type 0
-Shared slots m n sets x marks = (f v : ℕ → ℕ) → Fits slots f v → Among sets m n f → bit_at marks (v x % 4096) ≡ 1
+Shared slots m n sets x marks = (f v : ℕ → ℕ) → Fits slots f v → Among sets m n f → Shows marks (v x)
 
--- of the first j targets, only such were struck out as have no marked label
+-- of the first j targets, just such were struck out as have no marked label
 pub record Sifted (before after : List ℕ) (labels : List ℕ) (j : ℕ) (marks : List ℕ) : Type 0 where
   pub outside : (l : ℕ) → j ≤ l → bit_at after l ≡ bit_at before l
-  pub kept : (i : ℕ) → i < j → bit_at before i ≡ 1 → bit_at marks (slice_index labels i % 4096) ≡ 1 → bit_at after i ≡ 1
+  pub kept : (i : ℕ) → i < j → bit_at before i ≡ 1 → Shows marks (slice_index labels i) → bit_at after i ≡ 1
   pub fewer : (i : ℕ) → i < j → bit_at after i ≡ 1 → bit_at before i ≡ 1
+  pub marked : (i : ℕ) → i < j → bit_at after i ≡ 1 → Shows marks (slice_index labels i)
 
 -- of the first n targets, only such as are not j were struck out
 pub record Narrowed (before after : List ℕ) (j n : ℕ) : Type 0 where

@@ -1,9 +1,12 @@
--- Where the nodes of two words meet that a substitution turns into each other, and the labels of words.
-use Rattle.std.specs.Prelude.{◌≡◌, ℕ, ◌+◌, ◌*◌, ◌%◌, ◌≤◌, List, [], ◌∷◌, Some, None, Option, slice_index_or}
-use Rattle.term.specs.Coding.{code, words_at, Next, first, after, tl}
+-- Where the nodes of two words meet that a substitution turns into each other, and where words stand first.
+use Rattle.std.specs.Prelude.{◌≡◌, ℕ, suc, ◌+◌, ◌*◌, ◌%◌, ◌<◌, ◌≤◌, List, [], ◌∷◌, length, Some, None, Option, slice_index, slice_index_or}
+use Rattle.std.proofs.Math.Logic.{ite}
+use Rattle.std.proofs.Math.Decide.{ℕ_discrete}
+use Rattle.term.specs.Coding.{code, word_at, words_at, Next, first, after, tl}
 use Rattle.term.specs.Joined.{Fellows}
+use Rattle.term.specs.Joins.{Symbol-discrete}
 use Rattle.term.specs.Matched.{Turns}
-use Rattle.term.specs.Words.{Word, len, subs}
+use Rattle.term.specs.Words.{Word, len, subs, Word-discrete}
 use Rattle.term.specs.declared.node.Node.{Node}
 use Rattle.term.specs.declared.node.Node.TheVariants.{Variable, Applied}
 use Rattle.term.specs.declared.node.Symbol.TheVariants.{Function, Positive, Negative}
@@ -34,16 +37,29 @@ abbrev pub Advanced : Node → List Node → (before after : Option ℕ) → Typ
 Advanced node b (Some q) after = Stepped node b q after
 Advanced node b None after = after ≡ None
 
--- a label of a word: equal words have equal labels, and other words mostly have others
+-- the first place where the word stands, or the end where it stands nowhere
+unfoldable pub place_of : List Node → Word → ℕ
+place_of [] w = 0
+place_of (node ∷ nodes) w = ite (Word-discrete ℕ_discrete Symbol-discrete (word_at (node ∷ nodes) 0) w) 0 (suc (place_of nodes w))
+
+-- for each node where its word ends
+abbrev pub Ends : List Node → (ends : List ℕ) → Type 0
+Ends nodes ends = (length nodes ≤ length ends) × ((q : ℕ) → q < length nodes → Next nodes q (slice_index ends q))
+
+-- for each node the first place where the same word stands
+abbrev pub Firsts : List Node → (places : List ℕ) → Type 0
+Firsts nodes places = (length nodes ≤ length places) × ((q : ℕ) → q < length nodes → slice_index places q ≡ place_of nodes (word_at nodes q))
+
+-- a hash of a word: equal words have equal hashes, and other words mostly have others
 abbrev pub number : Node → ℕ
 number (Variable x) = 2 * x
 number (Applied (Function f) k) = 2 * f + 1
 number (Applied (Positive p) k) = 2 * p
 number (Applied (Negative p) k) = 2 * p + 1
 
-abbrev pub mixed : (label : ℕ) → List Node → ℕ
-mixed label [] = label
-mixed label (node ∷ nodes) = mixed ((label * 31 + number node) % 4096) nodes
+abbrev pub mixed : (hash : ℕ) → List Node → ℕ
+mixed hash [] = hash
+mixed hash (node ∷ nodes) = mixed ((hash * 31 + number node) % 4096) nodes
 
-unfoldable pub label_of : Word → ℕ
-label_of w = mixed 0 (code w)
+unfoldable pub hash_of : Word → ℕ
+hash_of w = mixed 0 (code w)

@@ -8,7 +8,7 @@ use Rattle.subsume.specs.declared.bits.BitSet.{BitSet}
 use Rattle.subsume.specs.declared.slot.Slot.{Slot}
 use Rattle.subsume.specs.Bits.{bit_at}
 use Rattle.subsume.specs.Choices.{row, Among, slot_at}
-use Rattle.subsume.specs.Meeting.{label_of}
+use Rattle.subsume.specs.Meeting.{place_of}
 
 module _ (N : List Node) (S : List ℕ) (M : List Node) (T : List ℕ) where
   -- the substitution turns literal i of the one into literal j of the other
@@ -19,9 +19,9 @@ module _ (N : List Node) (S : List ℕ) (M : List Node) (T : List ℕ) where
   abbrev pub Works : (ℕ → ℕ) → Type 0
   Works f = (θ : ℕ → Word) × ((i : ℕ) → i < length S → TurnsAt θ i (f i))
 
-  -- each label is that of the word that the target gives the variable x of literal i
+  -- the label of each target is the first place where the word stands that it gives the variable x of literal i
   abbrev pub Named : (i x : ℕ) → List ℕ → Type 0
-  Named i x labels = (j : ℕ) → j < length T → (θ : ℕ → Word) → TurnsAt θ i j → slice_index labels j ≡ label_of (θ x)
+  Named i x labels = (j : ℕ) → j < length T → (θ : ℕ → Word) → TurnsAt θ i j → slice_index labels j ≡ place_of M (θ x)
 
   -- the same for each slot of the table
   abbrev pub Linked : {C : ℕ} → List (Slot C) → Type 0

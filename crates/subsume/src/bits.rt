@@ -1,13 +1,13 @@
 // Sets of numbers, as bits in words of 64.
 ghost use Rattle.std.specs.Prelude.{◌≡◌, ℕ, ◌*◌, ◌<◌, ◌≤◌, ⊤, length, map, sum, count_ones, Decides, ◌≢◌};
-ghost use Rattle.subsume.specs.Bits.{bit_at, First, FirstFrom, Popped, Only};
+ghost use Rattle.subsume.specs.Bits.{bit_at, First, Popped, Only, Parted};
 
 use std::alloc::AllocError;
 
 // A set of numbers below 64 * W.
 #[derive(Copy)]
 pub struct BitSet<const W: usize> {
-    words: [u64; W],
+    pub words: [u64; W],
     ghost sized: { length words ≡ W },
     ghost few: { W ≤ 1024 },
 }
@@ -76,27 +76,6 @@ impl<const W: usize> BitSet<W> {
         Some(64 * w + self.words[w].trailing_zeros() as usize)
     }
 
-    // The least number in the set from `from` on.
-    pub fn first_from(&self, from: usize) -> Option<usize>
-        ensures { FirstFrom self.now.words from result }
-    {
-        let w = from / 64;
-        if w >= W {
-            return None;
-        }
-        let rest = self.words[w] >> (from % 64);
-        if rest != 0 {
-            return Some(from + rest.trailing_zeros() as usize);
-        }
-        // By number: over a part of the words the proof would have to count from two starts.
-        for v in w + 1..W {
-            if self.words[v] != 0 {
-                return Some(64 * v + self.words[v].trailing_zeros() as usize);
-            }
-        }
-        None
-    }
-
     // Whether no number is in the set.
     pub fn is_empty(&self) -> bool
         ensures { Decides result (First self.now.words None) }
@@ -131,4 +110,13 @@ impl<const W: usize> BitSet<W> {
     {
         self.words.iter().map(|word| word.count_ones()).sum()
     }
+}
+
+// The least bit of a word that has some, and the word without it.
+pub fn part(word: u64) -> (usize, u64)
+    requires { 0 < word }
+    ensures { Parted word result.0 result.1 }
+{
+    let k = word.trailing_zeros() as usize;
+    (k, word & !(1u64 << k))
 }

@@ -98,15 +98,15 @@ impl View<'_> {
         self,
         other: View<'_>,
     ) -> Option<Bounded<u16, N>>
-        requires few { (length self.starts.now ≤ N) × (length other.starts.now ≤ N) × (N ≤ 256) × (K ≤ 65536) }
-        requires variables { Below V self.nodes.now × (V ≤ 65536) }
+        requires few { (length self.starts.now ≤ N) × (length other.starts.now ≤ N) × (N ≤ 256) × (K ≤ 65536) × (length other.nodes.now ≤ V) }
+        requires variables { Below V self.nodes.now × (V ≤ 65535) }
         ensures { MatchOption result (Covers (literals_at self.entry.nodes.now self.entry.starts.now) (literals_at other.entry.nodes.now other.entry.starts.now) → ⊥) (λ choice. FirstChoice (literals_at self.entry.nodes.now self.entry.starts.now) (literals_at other.entry.nodes.now other.entry.starts.now) (elems choice)) }
     {
         // One search decides what would else take one for each target of the first literal.
         if !self.covers::<N, K, V>(other) {
             return None;
         }
-        let table = Table::<N, K>::link(self, other);
+        let table = Table::<N, K>::link::<V>(self, other);
         let (state, choice) = table.begin();
         table.first_from::<V>(state, choice)
     }

@@ -7,14 +7,14 @@ use super::table::Table;
 use super::view::View;
 
 impl View<'_> {
-    // Whether some substitution turns each literal into a literal of the other. N bounds the literals of each, K the slots that
-    // help the search, and V is more than the number of any variable.
+    // Whether some substitution turns each literal into a literal of the other. N bounds the literals of each, and K the slots
+    // that help the search; V is more than the number of any variable, and no less than the other has nodes.
     pub fn covers<const N: usize, const K: usize, const V: usize>(self, other: View<'_>) -> bool
-        requires few { (length self.starts.now ≤ N) × (length other.starts.now ≤ N) × (N ≤ 256) × (K ≤ 65536) }
-        requires variables { Below V self.nodes.now × (V ≤ 65536) }
+        requires few { (length self.starts.now ≤ N) × (length other.starts.now ≤ N) × (N ≤ 256) × (K ≤ 65536) × (length other.nodes.now ≤ V) }
+        requires variables { Below V self.nodes.now × (V ≤ 65535) }
         ensures { Decides result (Covers (literals_at self.entry.nodes.now self.entry.starts.now) (literals_at other.entry.nodes.now other.entry.starts.now)) }
     {
-        let table = Table::<N, K>::link(self, other);
+        let table = Table::<N, K>::link::<V>(self, other);
         table.solvable::<V>(table.start())
     }
 }

@@ -8,6 +8,7 @@ mod covering;
 mod link;
 mod meeting;
 mod outside;
+mod places;
 mod prune;
 mod search;
 mod slot;

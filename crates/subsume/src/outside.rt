@@ -26,7 +26,7 @@ fn remove(left: &mut BitSet<4>, gone: &BitSet<4>, n: usize)
 
 impl<const N: usize, const K: usize> Table<'_, N, K> {
     // The state before a choice is made, without the targets that are gone.
-    pub fn without(&self, start: &State<N>, gone: &BitSet<4>) -> State<N>
+    fn without(&self, start: &State<N>, gone: &BitSet<4>) -> State<N>
         requires picked { Picked start.now.sets (length self.now.literals.starts.now) (length self.now.targets.starts.now) start.now.picks }
         requires none { (i : ℕ) → i < length self.now.literals.starts.now → pick start.now.picks i ≡ None }
         requires spared { Spared self.now.literals.nodes.now self.now.literals.starts.now self.now.targets.nodes.now self.now.targets.starts.now start.now.sets }
@@ -35,7 +35,7 @@ impl<const N: usize, const K: usize> Table<'_, N, K> {
         ensures spared { SparedOutside self.now.literals.nodes.now self.now.literals.starts.now self.now.targets.nodes.now self.now.targets.starts.now gone.now.words result.sets }
     {
         let mut sets = start.sets;
-        let mut queue = BitSet::<64>::new();
+        let mut queue = BitSet::<N>::new();
         for i in 0..self.literals.len() {
             remove(&mut sets[i], gone, self.targets.len());
             self.enqueue(i, &mut queue);

@@ -1,63 +1,97 @@
 // Strikes out candidates that no choice of targets can take: those on which two literals that share a variable disagree.
-ghost use Rattle.std.specs.Prelude.{◌≡◌, ℕ, ◌≤◌, length, option_copied};
+ghost use Rattle.std.specs.Prelude.{◌≡◌, ℕ, ◌*◌, ◌<◌, ◌≤◌, length, slice_index, option_copied, Decides, ◌≢◌, ◌⊎◌};
+ghost use Rattle.std.specs.Int.{bit_at as bit};
 ghost use Rattle.bounded.specs.Elems.{elems};
 ghost use Rattle.subsume.specs.Bits.{bit_at};
-ghost use Rattle.subsume.specs.Choices.{Marked, Shared, Standing, Sifted, Pruned};
+ghost use Rattle.subsume.specs.Choices.{Shows, Marked, Shared, Standing, Sifted, Pruned};
 
-use super::bits::BitSet;
+use super::bits::{BitSet, part};
 use super::slot::Slot;
 use super::table::Table;
-
-// How many labels, and how many variables, are told apart.
-const LABELS: usize = 4096;
 
 // How many variables are looked at again before pruning stops.
 const ROUNDS: usize = 65536;
 
-// Of the marked labels, those that a target gives which is left.
-fn mark(left: &BitSet<4>, labels: &[u16], before: &BitSet<64>) -> BitSet<64>
+// Of the marked labels, those that a target gives that is left. A label beyond what can be marked strikes out nothing.
+fn mark<const N: usize>(left: &BitSet<4>, labels: &[u16], before: &BitSet<N>) -> BitSet<N>
+    requires { (length labels.now ≤ 256) × (N ≤ 1024) }
     ensures { Marked left.now.words labels.now (length labels.now) before.now.words result.words }
 {
-    let mut marks = BitSet::<64>::new();
-    let mut from = 0;
-    while let Some(j) = left.first_from(from) {
-        if j >= labels.len() {
+    let mut marks = BitSet::<N>::new();
+    for w in 0..4 {
+        if 64 * w >= labels.len() {
             break;
         }
-        let label = labels[j] as usize % LABELS;
-        if before.test(label) {
-            marks.include(label);
-        }
-        from = j + 1;
+        mark_word(left.words[w], &labels[64 * w..], before, &mut marks);
     }
     marks
 }
 
-// Strikes out the targets whose labels are not marked; says whether there were any.
-fn sift(left: &mut BitSet<4>, labels: &[u16], marks: &BitSet<64>) -> bool
-    ensures { Sifted left.old.words left.new.words labels.now (length labels.now) marks.now.words }
+// The same for the targets of one word.
+fn mark_word<const N: usize>(word: u64, labels: &[u16], before: &BitSet<N>, marks: &mut BitSet<N>)
+    ensures here { (k : ℕ) → k < length labels.now → bit word k ≡ 1 → Shows before.now.words (slice_index labels.now k) → Shows marks.new.words (slice_index labels.now k) }
+    ensures others { (l : ℕ) → bit_at marks.old.words l ≡ 1 → bit_at marks.new.words l ≡ 1 }
+    ensures only { (l : ℕ) → bit_at marks.new.words l ≡ 1 → (bit_at marks.old.words l ≡ 1) ⊎ ((bit_at before.now.words l ≡ 1) × ((k : ℕ) × (k < 64) × (k < length labels.now) × (bit word k ≡ 1) × (slice_index labels.now k ≡ l))) }
 {
-    let mut struck = false;
-    let mut from = 0;
-    while let Some(j) = left.first_from(from) {
-        if j >= labels.len() {
+    let mut rest = word;
+    while rest != 0 {
+        let (k, others) = part(rest);
+        if k >= labels.len() {
             break;
         }
-        if !marks.test(labels[j] as usize % LABELS) {
-            left.exclude(j);
-            struck = true;
+        let label = labels[k] as usize;
+        if label < 64 * N && before.test(label) {
+            marks.include(label);
         }
-        from = j + 1;
+        rest = others;
     }
-    struck
+}
+
+// Strikes out the targets whose labels are not marked; says whether there were any.
+fn sift<const N: usize>(left: &mut BitSet<4>, labels: &[u16], marks: &BitSet<N>) -> bool
+    requires { length labels.now ≤ 256 }
+    ensures sifted { Sifted left.old.words left.new.words labels.now (length labels.now) marks.now.words }
+    ensures struck { Decides result (left.new.words ≢ left.old.words) }
+{
+    let before = left.words;
+    for w in 0..4 {
+        if 64 * w >= labels.len() {
+            break;
+        }
+        left.words[w] = sift_word(left.words[w], &labels[64 * w..], marks);
+    }
+    left.words != before
+}
+
+// The targets of one word that are kept.
+fn sift_word<const N: usize>(word: u64, labels: &[u16], marks: &BitSet<N>) -> u64
+    ensures kept { (k : ℕ) → k < length labels.now → bit word k ≡ 1 → Shows marks.now.words (slice_index labels.now k) → bit result k ≡ 1 }
+    ensures fewer { (k : ℕ) → bit result k ≡ 1 → bit word k ≡ 1 }
+    ensures marked { (k : ℕ) → k < length labels.now → bit result k ≡ 1 → Shows marks.now.words (slice_index labels.now k) }
+    ensures outside { (k : ℕ) → length labels.now ≤ k → bit result k ≡ bit word k }
+{
+    let mut kept = word;
+    let mut rest = word;
+    while rest != 0 {
+        let (k, others) = part(rest);
+        if k >= labels.len() {
+            break;
+        }
+        let label = labels[k] as usize;
+        if label < 64 * N && !marks.test(label) {
+            kept &= !(1u64 << k);
+        }
+        rest = others;
+    }
+    kept
 }
 
 impl<const N: usize, const K: usize> Table<'_, N, K> {
     // The slot at a place of the table, if it is one of the variable `x`.
-    fn slot(&self, at: Option<usize>, x: usize) -> Option<&Slot<N>>
+    fn slot(&self, at: Option<u16>, x: usize) -> Option<&Slot<N>>
         ensures { Standing (elems self.now.slots) (λ slot. slot.variable ≡ x) (option_copied result) }
     {
-        let slot = self.slots.as_slice().get(at?)?;
+        let slot = self.slots.as_slice().get(at? as usize)?;
         if slot.variable as usize == x {
             Some(slot)
         } else {
@@ -66,18 +100,18 @@ impl<const N: usize, const K: usize> Table<'_, N, K> {
     }
 
     // Marks the labels that each literal with the variable `x` has a candidate for.
-    fn shared(&self, x: usize, sets: &[BitSet<4>]) -> BitSet<64>
+    fn shared(&self, x: usize, sets: &[BitSet<4>]) -> BitSet<N>
         requires { length self.now.literals.starts.now ≤ length sets.now }
         ensures { Shared (elems self.now.slots) (length self.now.literals.starts.now) (length self.now.targets.starts.now) sets.now x result.words }
     {
         let n = self.targets.len();
-        let mut marks = BitSet::<64>::full();
+        let mut marks = BitSet::<N>::full();
         let mut at = self.last.get(x).copied().flatten();
         for _ in 0..K {
             let Some(slot) = self.slot(at, x) else {
                 break;
             };
-            marks = mark(&sets[slot.literal], &slot.labels[..n], &marks);
+            marks = mark(&sets[slot.literal as usize], &slot.labels[..n], &marks);
             at = slot.before;
         }
         marks
@@ -85,7 +119,7 @@ impl<const N: usize, const K: usize> Table<'_, N, K> {
 
     // Strikes out the candidates that give the variable `x` a label that is not marked. The variables of literals that lose
     // a candidate come into the queue; where a literal has lost its last, nothing more need be looked at.
-    fn strike(&self, x: usize, marks: &BitSet<64>, sets: &mut [BitSet<4>], queue: &mut BitSet<64>)
+    fn strike(&self, x: usize, marks: &BitSet<N>, sets: &mut [BitSet<4>], queue: &mut BitSet<N>)
         requires rows { length self.now.literals.starts.now ≤ length sets.old }
         requires shared { Shared (elems self.now.slots) (length self.now.literals.starts.now) (length self.now.targets.starts.now) sets.old x marks.now.words }
         ensures { Pruned (elems self.now.slots) (length self.now.literals.starts.now) (length self.now.targets.starts.now) sets.old sets.new }
@@ -96,42 +130,52 @@ impl<const N: usize, const K: usize> Table<'_, N, K> {
             let Some(slot) = self.slot(at, x) else {
                 break;
             };
-            if sift(&mut sets[slot.literal], &slot.labels[..n], marks) {
-                if sets[slot.literal].is_empty() {
-                    *queue = BitSet::<64>::new();
+            if sift(&mut sets[slot.literal as usize], &slot.labels[..n], marks) {
+                if sets[slot.literal as usize].is_empty() {
+                    *queue = BitSet::<N>::new();
                     return;
                 }
-                self.enqueue(slot.literal, queue);
+                self.enqueue(slot.literal as usize, queue);
             }
             at = slot.before;
         }
     }
 
     // Puts the variables of literal `i` into the queue.
-    pub fn enqueue(&self, i: usize, queue: &mut BitSet<64>)
+    pub fn enqueue(&self, i: usize, queue: &mut BitSet<N>)
         ensures { (l : ℕ) → bit_at queue.old.words l ≡ 1 → bit_at queue.new.words l ≡ 1 }
     {
         let first = self.first.get(i).copied().unwrap_or(0);
         for slot in self.slots.as_slice().iter().skip(first) {
-            if slot.literal != i {
+            if slot.literal as usize != i {
                 break;
             }
-            queue.include(slot.variable as usize % LABELS);
+            if (slot.variable as usize) < 64 * N {
+                queue.include(slot.variable as usize);
+            }
         }
     }
 
-    // Strikes out what literals with the variable `x` disagree on.
-    fn revise(&self, x: usize, sets: &mut [BitSet<4>], queue: &mut BitSet<64>)
+    // Strikes out what literals with the variable `x` disagree on; where it stands in one alone, nothing.
+    fn revise(&self, x: usize, sets: &mut [BitSet<4>], queue: &mut BitSet<N>)
         requires { length self.now.literals.starts.now ≤ length sets.old }
         ensures { Pruned (elems self.now.slots) (length self.now.literals.starts.now) (length self.now.targets.starts.now) sets.old sets.new }
     {
+        let Some(last) = self.slot(self.last.get(x).copied().flatten(), x) else {
+            return;
+        };
+        if last.before.is_none() {
+            return;
+        }
         let marks = self.shared(x, sets);
         self.strike(x, &marks, sets, queue);
-        queue.exclude(x % LABELS);
+        if x < 64 * N {
+            queue.exclude(x);
+        }
     }
 
     // Strikes out candidates until no two literals disagree, beginning at the variables in the queue.
-    pub fn prune(&self, sets: &mut [BitSet<4>], mut queue: BitSet<64>)
+    pub fn prune(&self, sets: &mut [BitSet<4>], mut queue: BitSet<N>)
         requires { length self.now.literals.starts.now ≤ length sets.old }
         ensures { Pruned (elems self.now.slots) (length self.now.literals.starts.now) (length self.now.targets.starts.now) sets.old sets.new }
     {

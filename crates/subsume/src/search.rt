@@ -37,7 +37,7 @@ impl<const N: usize, const K: usize> Table<'_, N, K> {
         ensures none { (i : ℕ) → pick result.picks i ≡ None }
     {
         let mut sets = self.candidates;
-        let mut queue = BitSet::<64>::new();
+        let mut queue = BitSet::<N>::new();
         for i in 0..self.literals.len() {
             self.enqueue(i, &mut queue);
         }
@@ -134,7 +134,7 @@ impl<const N: usize, const K: usize> Table<'_, N, K> {
     {
         let mut sets = state.sets;
         narrow(&mut sets[i], j, self.targets.len());
-        let mut queue = BitSet::<64>::new();
+        let mut queue = BitSet::<N>::new();
         self.enqueue(i, &mut queue);
         self.prune(&mut sets, queue);
         let mut picks = state.picks;

@@ -6,10 +6,10 @@ use std::alloc::AllocError;
 // A variable of a literal, and for each target the label of the word that it gives the variable.
 #[derive(Copy)]
 pub struct Slot<const N: usize> {
-    pub literal: usize,
+    pub literal: u16,
     pub variable: u16,
     // The slot before this one with the same variable.
-    pub before: Option<usize>,
+    pub before: Option<u16>,
     pub labels: [u16; N],
     ghost sized: { length labels ≡ N },
 }

@@ -22,8 +22,8 @@ pub struct Table<'a, const N: usize, const K: usize> {
     pub candidates: Candidates<N>,
     // For each literal its first slot, and for each variable its last. Pruning is quicker for them, and no proof rests on them.
     pub first: [usize; N],
-    pub last: [Option<usize>; K],
-    // How many literals there may be stands here, since `candidates`, pruning and each step of the search need it.
+    pub last: [Option<u16>; K],
+    // How many literals there may be stands here, since pruning and each step of the search need it.
     ghost few: { (length literals.starts.now ≤ N) × (length targets.starts.now ≤ N) × (N ≤ 256) },
     ghost rows: { (length candidates ≡ N) × (length first ≡ N) },
     ghost opened: { Open literals.nodes.now literals.starts.now targets.nodes.now targets.starts.now candidates (length literals.starts.now) },

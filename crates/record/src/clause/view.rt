@@ -1,5 +1,5 @@
 // A record as a clause by its nodes.
-ghost use Rattle.std.specs.Prelude.{◌≡◌};
+ghost use Rattle.std.specs.Prelude.{◌≡◌, ◌≤◌, length};
 ghost use Rattle.clauses.specs.Beginnings.{begins};
 ghost use Rattle.clauses.specs.Clauses.{literals_at};
 ghost use Rattle.term.specs.Coding.{codes};
@@ -16,6 +16,7 @@ impl Record {
         ensures starts { result.starts.now ≡ begins 0 (literals self.now) }
         ensures literals { literals_at result.nodes.now result.starts.now ≡ clause self.now }
         ensures variables { Below 256 result.nodes.now }
+        ensures small { length result.nodes.now ≤ 256 }
     {
         View {
             nodes: self.nodes(),

@@ -24,3 +24,9 @@ pub returns-clause-variables : goal.returns-clause-variables
 returns-clause-variables c =
     let r = c.args.self.now in
     subst (Below 256) (sym c.nodes.ensures.value) (clause-below (literals r) (held r))
+
+pub returns-clause-small : goal.returns-clause-small
+returns-clause-small c =
+    let r = c.args.self.now in
+    let small = (held r).small in
+    omega (arith, ap length c.nodes.ensures.value, length-codes (literals r))

@@ -34,7 +34,7 @@ add_variable-requires g c =
     let literals = c.loop-p.invariant.literals in
     let targets = c.loop-p.invariant.targets in (
       search rules,
-      (omega (arith, c.requires, ap (λ (v : View). length v.starts.now) literals), (omega (arith, c.loop-p.auto.at, long, c.len.ensures, ap (λ (v : View). length v.starts.now) targets), rw (literals, targets) gives)),
+      (rw targets c.requires.firsts, (omega (arith, c.requires.literal, ap (λ (v : View). length v.starts.now) literals), (omega (arith, c.loop-p.auto.at, long, c.len.ensures, ap (λ (v : View). length v.starts.now) targets), rw (literals, targets) gives))),
     )
 
 -- where the walk stands after the variable
@@ -59,8 +59,8 @@ ruled g c j h =
       | in_default w ↦ inl (ap (λ at. get_or at j None) w.at-is)
     ])
 
-pub advance-requires : goal.advance-requires
-advance-requires g c j q s =
+pub advance-requires-clause-inside : goal.advance-requires-clause-inside
+advance-requires-clause-inside g c j q s =
     let u = c.literal-literal.result in
     let t = c.args.self.now.targets in
     let long = length-take-le c.len.result c.begin-front.result (omega (arith, c.len.ensures, c.begin-front.ensures.size, c.args.self.now.few.1)) in
@@ -86,4 +86,4 @@ pub returns-clause-left : goal.returns-clause-left
 returns-clause-left g c j h θ y =
     let same = ap₂ word_at c.literal-literal.ensures.nodes c.literal-literal.ensures.start in
     let q = reached-last c.literal-literal.result c.args.self.now.targets j h c.loop-p.p _ (c.loop-p.invariant.front j h) θ (ap (sub θ) same ∙ y) in
-    c.met.ensures j q.0 q.1
+    c.met.ensures.here j q.0 q.1

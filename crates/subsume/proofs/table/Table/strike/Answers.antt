@@ -19,7 +19,7 @@ sifted g c =
     let inside : slot.literal < length c.loop.sets = omega (arith, own, c.requires.rows, c.loop.auto.sets) in
     sift-prunes slots m n c.args.x slot s.0 s.1 s.2 s.3 c.args.sets.now c.loop.sets _ c.args.marks.now.words c.sift.new.left inside
     (row-read c.loop.sets slot.literal c.index-sets-slot.result inside) c.requires.shared c.loop.invariant
-    (sifted-first slot.labels n (omega (arith, t.few.1, slot.sized)) _ _ _ (rw c.len-n.ensures at c.sift.ensures))
+    (sifted-first slot.labels n (omega (arith, t.few.1, slot.sized)) _ _ _ (rw c.len-n.ensures at c.sift.ensures.sifted))
 
 pub returns-then-is_empty : goal.returns-then-is_empty
 returns-then-is_empty g c = sifted g (goal.at.returns-then-is_empty g c).After-sift

@@ -1,0 +1,94 @@
+// Where the words of the targets end, and where they stand first. The first place of a word is its label: equal words have
+// the same, and others another.
+ghost use Rattle.std.specs.Prelude.{◌≡◌, ◌<◌, ◌≤◌, length};
+ghost use Rattle.term.specs.Coding.{word_at};
+ghost use Rattle.subsume.specs.Meeting.{place_of, Ends, Firsts, number, hash_of};
+
+use super::view::View;
+use term::{Node, Symbol, WordAt};
+
+// For each of at most P nodes, a place among them.
+pub type Places<const P: usize> = [u16; P];
+
+// For each node of the targets where its word ends.
+pub fn ends<const P: usize>(targets: View<'_>) -> Places<P>
+    requires { (length targets.nodes.now ≤ P) × (P ≤ 65535) }
+    ensures { Ends targets.entry.nodes.now result }
+{
+    let mut ends = [0; P];
+    for start in 0..targets.nodes.len() {
+        let word = WordAt {
+            nodes: targets.nodes,
+            start,
+        };
+        ends[start] = word.end() as u16;
+    }
+    ends
+}
+
+// For each node of the targets the first place where the same word stands.
+pub fn firsts<const P: usize>(targets: View<'_>) -> Places<P>
+    requires { (length targets.nodes.now ≤ P) × (P ≤ 65535) }
+    ensures { Firsts targets.entry.nodes.now result }
+{
+    let mut places = [0; P];
+    // For each hash the first place of a word that has it, or P.
+    let mut seen: Places<P> = [P as u16; P];
+    for q in 0..targets.nodes.len() {
+        let word = WordAt {
+            nodes: targets.nodes,
+            start: q,
+        };
+        let h = hash(word) as usize % P;
+        let p = seen[h];
+        if p >= q as u16 {
+            seen[h] = q as u16;
+            places[q] = q as u16;
+        } else if word.is_same(word.at(p as usize)) {
+            places[q] = p;
+        } else {
+            places[q] = first_place(word) as u16;
+        }
+    }
+    places
+}
+
+// The first place where the word stands.
+fn first_place(word: WordAt<'_>) -> usize
+    ensures value { result ≡ place_of word.entry.nodes.now (word_at word.entry.nodes.now word.entry.start) }
+    ensures bound { result ≤ word.entry.start }
+{
+    for p in 0..word.start {
+        if word.is_same(word.at(p)) {
+            return p;
+        }
+    }
+    word.start
+}
+
+// A hash of a word, by which most that differ are told apart.
+fn hash(word: WordAt<'_>) -> u16
+    ensures value { result ≡ hash_of (word_at word.entry.nodes.now word.entry.start) }
+    ensures bound { result < 4096 }
+{
+    // A loop and no `fold`, since each turn relies on an invariant: the hash is below 4096.
+    let mut hash: u32 = 0;
+    for node in &word.nodes[word.start..word.end()] {
+        hash = (hash * 31 + number(*node)) % 4096;
+    }
+    hash as u16
+}
+
+// What a node adds to a hash. A weight and no conversion: so no `From`. The numbers of the packed
+// form have the same cases and are narrower.
+fn number(node: Node) -> u32
+    ensures value { result ≡ number node }
+    ensures bound { result ≤ 131071 }
+{
+    match node {
+        Node::Variable(x) => 2 * x as u32,
+        Node::Applied(Symbol::Function(f), _) => 2 * f as u32 + 1,
+        Node::Applied(Symbol::Positive(p), _) => 2 * p as u32,
+        Node::Applied(Symbol::Negative(p), _) => 2 * p as u32 + 1,
+    }
+}
