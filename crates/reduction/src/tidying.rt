@@ -9,14 +9,17 @@ ghost use Rattle.term.specs.Matched.{Below};
 ghost use Rattle.reduction.specs.Tidyings.{Inside, Standing, Turned, Passed, Taken, Leaves};
 
 use bounded::Bounded;
-use subsume::{BitSet, State, Table, View};
+use subsume::{BitSet, Slots, State, Table, Targets, View};
 
-// How many literals a clause may have, how many slots help the search, and how many variables a clause may have.
+// How many literals a clause may have, how many slots help the search, how many variables a clause may have, and how many
+// words of 64 bits a set of them has.
 const LITERALS: usize = 256;
 
 const SLOTS: usize = 1024;
 
 const VARIABLES: usize = 4096;
+
+const WORDS: usize = 64;
 
 // What has been decided: where the literals begin that are kept, and which of all are gone.
 #[derive(Clone, Copy)]
@@ -39,22 +42,20 @@ impl Decided {
     // Decides on literal `i`: it is dropped where the literals that are left cover the clause without it.
     fn turn(
         &mut self,
-        clause: View<'_>,
-        table: &Table<'_, LITERALS, SLOTS>,
+        table: &Table<'_, LITERALS, WORDS>,
         start: &State<LITERALS>,
         mapped: &BitSet<4>,
         i: usize,
     ) -> Turn
-        requires literal { i < length clause.starts.now }
-        requires targets { table.now.targets ≡ clause }
+        requires literal { i < length table.now.targets.starts.now }
         requires variables { Below VARIABLES table.now.literals.nodes.now }
         requires picked { Picked start.now.sets (length table.now.literals.starts.now) (length table.now.targets.starts.now) start.now.picks }
         requires none { (k : ℕ) → pick start.now.picks k ≡ None }
         requires spared { Spared table.now.literals.nodes.now table.now.literals.starts.now table.now.targets.nodes.now table.now.targets.starts.now start.now.sets }
-        requires inside { Inside (length clause.nodes.now) self.old }
-        requires standing { Standing clause.nodes.now (literals_at clause.nodes.now clause.starts.now) mapped.now.words (literals_at table.now.literals.nodes.now table.now.literals.starts.now) i self.old }
-        ensures inside { Inside (length clause.entry.nodes.now) self.new }
-        ensures turned { Turned clause.entry.nodes.now (literals_at clause.entry.nodes.now clause.entry.starts.now) mapped.now.words (literals_at table.now.literals.nodes.now table.now.literals.starts.now) i result self.new }
+        requires inside { Inside (length table.now.targets.nodes.now) self.old }
+        requires standing { Standing table.now.targets.nodes.now (literals_at table.now.targets.nodes.now table.now.targets.starts.now) mapped.now.words (literals_at table.now.literals.nodes.now table.now.literals.starts.now) i self.old }
+        ensures inside { Inside (length table.now.targets.nodes.now) self.new }
+        ensures turned { Turned table.now.targets.nodes.now (literals_at table.now.targets.nodes.now table.now.targets.starts.now) mapped.now.words (literals_at table.now.literals.nodes.now table.now.literals.starts.now) i result self.new }
     {
         self.gone.include(i);
         if !mapped.test(i) {
@@ -64,7 +65,7 @@ impl Decided {
             return Turn::Shrunk(picks);
         }
         self.gone.exclude(i);
-        match self.kept.push(clause.starts[i]) {
+        match self.kept.push(table.targets.starts[i]) {
             Ok(()) => Turn::On,
             Err(_) => Turn::Full,
         }
@@ -84,28 +85,24 @@ pub(super) enum Outcome {
     },
 }
 
-// Gives each literal from `at` on its turn, until one is dropped by choices that are new. `image` is what the clause was
-// last turned into, at the places in `mapped`.
+// Gives each literal of a clause from `at` on its turn, until one is dropped by choices that are new. The clause is the targets
+// of the table, and its literals are what it was last turned into, at the places in `mapped`.
 fn pass(
-    clause: View<'_>,
-    image: View<'_>,
+    table: &Table<'_, LITERALS, WORDS>,
     mapped: &BitSet<4>,
     at: usize,
     decided: &mut Decided,
 ) -> Outcome
-    requires few { (length clause.starts.now ≤ LITERALS) × (length image.starts.now ≤ LITERALS) }
-    requires small { length clause.nodes.now ≤ VARIABLES }
-    requires same { image.nodes.now ≡ clause.nodes.now }
-    requires variables { Below VARIABLES clause.nodes.now }
-    requires inside { Inside (length clause.nodes.now) decided.old }
-    requires standing { Standing clause.nodes.now (literals_at clause.nodes.now clause.starts.now) mapped.now.words (literals_at image.nodes.now image.starts.now) at decided.old }
-    ensures inside { Inside (length clause.entry.nodes.now) decided.new }
-    ensures passed { Passed clause.entry.nodes.now (literals_at clause.entry.nodes.now clause.entry.starts.now) (literals_at image.entry.nodes.now image.entry.starts.now) at result decided.new }
+    requires same { table.now.literals.nodes.now ≡ table.now.targets.nodes.now }
+    requires variables { Below VARIABLES table.now.targets.nodes.now }
+    requires inside { Inside (length table.now.targets.nodes.now) decided.old }
+    requires standing { Standing table.now.targets.nodes.now (literals_at table.now.targets.nodes.now table.now.targets.starts.now) mapped.now.words (literals_at table.now.literals.nodes.now table.now.literals.starts.now) at decided.old }
+    ensures inside { Inside (length table.now.targets.nodes.now) decided.new }
+    ensures passed { Passed table.now.targets.nodes.now (literals_at table.now.targets.nodes.now table.now.targets.starts.now) (literals_at table.now.literals.nodes.now table.now.literals.starts.now) at result decided.new }
 {
-    let table = Table::<LITERALS, SLOTS>::link::<VARIABLES>(image, clause);
     let start = table.start();
-    for i in at..clause.len() {
-        match decided.turn(clause, &table, &start, mapped, i) {
+    for i in at..table.targets.len() {
+        match decided.turn(table, &start, mapped, i) {
             Turn::On => {}
             Turn::Full => return Outcome::Full,
             Turn::Shrunk(picks) => return Outcome::Shrunk { next: i + 1, picks },
@@ -149,6 +146,8 @@ pub fn tidied(clause: View<'_>) -> Option<Bounded<usize, 16>>
         kept: Bounded::new(0),
         gone: BitSet::new(),
     };
+    let words = Targets::<VARIABLES>::new(clause);
+    let mut slots = Slots::<LITERALS, SLOTS>::new();
     let (mut image, mut mapped) = whole(clause);
     let mut at = 0;
     loop {
@@ -156,7 +155,8 @@ pub fn tidied(clause: View<'_>) -> Option<Bounded<usize, 16>>
             nodes: clause.nodes,
             starts: image.as_slice(),
         };
-        match pass(clause, view, &mapped, at, &mut decided) {
+        let table = Table::<LITERALS, WORDS>::link(view, &words, &mut slots);
+        match pass(&table, &mapped, at, &mut decided) {
             Outcome::Whole => return Some(decided.kept),
             Outcome::Full => return None,
             Outcome::Shrunk { next, picks } => {

@@ -1,8 +1,8 @@
 -- Targets that are gone, and what is left without them.
-use Rattle.std.proofs.Common.{◌≡◌, ℕ, ◌+◌, ◌/◌, ◌%◌, ◌<◌, ◌≤◌, List, length, get_or, set, Some, None, Option, All, IfSome, MatchOption, sym, refl, ap, ◌∙◌, subst, ⊎_elim, arith}
+use Rattle.std.proofs.Common.{◌≡◌, ℕ, ◌+◌, ◌-◌, ◌*◌, ◌/◌, ◌%◌, ◌<◌, ◌≤◌, min, List, length, get_or, set, Some, None, Option, All, IfSome, MatchOption, sym, refl, ap, ap₂, ◌∙◌, subst, ⊎_elim, arith}
+use Rattle.std.specs.Int.{bit_at as bit}
 use Rattle.std.proofs.lemmas.Bool.{cases_eq, cases_lt}
-use Rattle.std.proofs.lemmas.List.{get_or-map, length-map, length-set}
-use Rattle.std.proofs.lemmas.Nat.Bits.{bit_at-lt}
+use Rattle.std.proofs.lemmas.List.{get_or-map, get_or-set_same, length-map, length-set}
 use Rattle.clauses.specs.Clauses.{literals_at}
 use Rattle.term.specs.Coding.{word_at}
 use Rattle.term.specs.Words.{Word, var, sub}
@@ -16,55 +16,68 @@ use Rattle.subsume.specs.Solving.{TurnsAt, Works, Linked, Hopeful, Spared, Spare
 use Rattle.subsume.specs.FirstChoices.{Outside, ChoosesOutside}
 use Rattle.subsume.proofs.Pruning.{row-set_same, row-set_other}
 use Rattle.subsume.proofs.Searching.{fits-works}
+use Rattle.subsume.proofs.Sets.{bit-below, bit-of_word, none-past, other-word}
 
--- a number is in a set or not
-pub absent : (words : List ℕ) (k : ℕ) → (bit_at words k ≡ 1 → ⊥) → bit_at words k ≡ 0
-unfolding bit_at
-absent words k n = let small = bit_at-lt (get_or words (k / 64) 0) (k % 64) in ⊎_elim (λ e. absurd (n e)) (λ m. omega (arith, small, m)) (cases_eq (bit_at words k) 1)
+-- of the first w words, the bits in the set were struck out
+pub record Removing (gone before words : List ℕ) (w : ℕ) : Type 0 where
+  pub done : (l : ℕ) → l < 64 * w → bit_at words l ≡ min (bit_at before l) (1 - bit_at gone l)
+  pub rest : (l : ℕ) → 64 * w ≤ l → bit_at words l ≡ bit_at before l
 
-module _ (gone before words : List ℕ) (j : ℕ) (r : Removed gone before words j) where
-  pub removed-gone : (after : List ℕ) → bit_at gone j ≡ 1 → bit_at after j ≡ 0 → ((l : ℕ) → (l ≡ j → ⊥) → bit_at after l ≡ bit_at words l) → Removed gone before after (j + 1)
-  removed-gone after g here others = record {
-    outside = λ l h. others l (λ e. omega arith) ∙ r.outside l (omega arith);
-    kept = λ l h b out. ⊎_elim
-        (λ (e : l ≡ j). let z : bit_at gone j ≡ 0 = ap (bit_at gone) (sym e) ∙ out in absurd (omega arith))
-        (λ n. others l n ∙ r.kept l (omega arith) b out) (cases_eq l j);
-    fewer = λ l h b. ⊎_elim
-        (λ (e : l ≡ j). let z : bit_at after j ≡ 1 = ap (bit_at after) (sym e) ∙ b in absurd (omega arith))
-        (λ n. r.fewer l (omega arith) (sym (others l n) ∙ b)) (cases_eq l j);
+pub removing-none : (gone words : List ℕ) → Removing gone words words 0
+removing-none gone words = record { done = λ l h. absurd (omega arith); rest = λ l h. refl }
+
+module _ (gone before words : List ℕ) (w v : ℕ) (inside : w < length words)
+    (struck : (m : ℕ) → m < 64 → bit v m ≡ min (bit (get_or words w 0) m) (1 - bit (get_or gone w 0) m)) (r : Removing gone before words w) where
+  at-word : (l m : ℕ) → m < 64 → l ≡ 64 * w + m → bit_at (set words w v) l ≡ min (bit_at before l) (1 - bit_at gone l)
+  at-word l m small e =
+      let place : (ws : List ℕ) → bit_at ws l ≡ bit (get_or ws w 0) m = λ ws. ap (bit_at ws) e ∙ bit-of_word ws w m small in
+      place (set words w v) ∙ ap (λ (x : ℕ). bit x m) (get_or-set_same words w v 0 inside) ∙ struck m small
+      ∙ ap₂ (λ x y. min x (1 - y)) (sym (place words) ∙ r.rest l (omega arith)) (sym (place gone))
+
+  pub removing-more : Removing gone before (set words w v) (w + 1)
+  removing-more = record {
+    done = λ l h. ⊎_elim
+        (λ (b : l < 64 * w). other-word words w v l (omega arith) ∙ r.done l b)
+        (λ b. at-word l (l - 64 * w) (omega arith) (omega arith))
+        (cases_lt l (64 * w));
+    rest = λ l h. other-word words w v l (omega arith) ∙ r.rest l (omega arith);
   }
 
-  pub removed-kept : bit_at gone j ≡ 0 → Removed gone before words (j + 1)
-  removed-kept g = record {
-    outside = λ l h. r.outside l (omega arith);
-    kept = λ l h b out. ⊎_elim (λ (e : l ≡ j). r.outside l (omega arith) ∙ b) (λ n. r.kept l (omega arith) b out) (cases_eq l j);
-    fewer = λ l h b. ⊎_elim (λ (e : l ≡ j). (sym (r.outside l (omega arith)) ∙ b, ap (bit_at gone) e ∙ g)) (λ n. r.fewer l (omega arith) b) (cases_eq l j);
-  }
+pub removed-all : (gone before after : List ℕ) (w : ℕ) → length after ≤ w → Removing gone before after w → Removed gone before after
+removed-all gone before after w all r = record {
+  kept = λ l b g. ⊎_elim (λ (h : l < 64 * w). omega (arith, r.done l h, b, g)) (λ h. r.rest l h ∙ b) (cases_lt l (64 * w));
+  fewer = λ l b. ⊎_elim
+      (λ (h : l < 64 * w).
+      let small = bit-below before l in
+      (omega (arith, r.done l h, b, small), omega (arith, r.done l h, b, small)))
+      (λ h. absurd (omega (arith, b, none-past after l (omega (arith, h, all)))))
+      (cases_lt l (64 * w));
+}
 
 -- the rows of the first i literals are without the targets that are gone, and the others are as they were
-pub record Cut (gone : List ℕ) (n : ℕ) (before after : List (BitSet 4)) (i : ℕ) : Type 0 where
-  pub done : (k : ℕ) → k < i → Removed gone (row before k) (row after k) n
+pub record Cut (gone : List ℕ) (before after : List (BitSet 4)) (i : ℕ) : Type 0 where
+  pub done : (k : ℕ) → k < i → Removed gone (row before k) (row after k)
   pub rest : (k : ℕ) → i ≤ k → row after k ≡ row before k
   pub long : length after ≡ length before
 
-pub cut-none : (gone : List ℕ) (n : ℕ) (sets : List (BitSet 4)) → Cut gone n sets sets 0
-cut-none gone n sets = record { done = λ k h. absurd (omega arith); rest = λ k h. refl; long = refl }
+pub cut-none : (gone : List ℕ) (sets : List (BitSet 4)) → Cut gone sets sets 0
+cut-none gone sets = record { done = λ k h. absurd (omega arith); rest = λ k h. refl; long = refl }
 
-module _ (gone : List ℕ) (n : ℕ) (before sets : List (BitSet 4)) (i : ℕ) where
-  pub cut-more : (r : BitSet 4) → i < length sets → Cut gone n before sets i → Removed gone (row sets i) r.words n → Cut gone n before (set sets i r) (i + 1)
+module _ (gone : List ℕ) (before sets : List (BitSet 4)) (i : ℕ) where
+  pub cut-more : (r : BitSet 4) → i < length sets → Cut gone before sets i → Removed gone (row sets i) r.words → Cut gone before (set sets i r) (i + 1)
   cut-more r inside c m =
-      let here : Removed gone (row before i) (row (set sets i r) i) n = rw (row-set_same sets i r inside, ← c.rest i (omega arith)) m in
+      let here : Removed gone (row before i) (row (set sets i r) i) = rw (row-set_same sets i r inside, ← c.rest i (omega arith)) m in
       record {
-        done = λ k h. ⊎_elim (λ (e : k ≡ i). subst (λ (x : ℕ). Removed gone (row before x) (row (set sets i r) x) n) (sym e) here)
-            (λ e. subst (λ (ws : List ℕ). Removed gone (row before k) ws n) (sym (row-set_other sets i k r e)) (c.done k (omega arith))) (cases_eq k i);
+        done = λ k h. ⊎_elim (λ (e : k ≡ i). subst (λ (x : ℕ). Removed gone (row before x) (row (set sets i r) x)) (sym e) here)
+            (λ e. subst (λ (ws : List ℕ). Removed gone (row before k) ws) (sym (row-set_other sets i k r e)) (c.done k (omega arith))) (cases_eq k i);
         rest = λ k h. row-set_other sets i k r (λ e. omega arith) ∙ c.rest k (omega arith);
         long = length-set sets i r ∙ c.long;
       }
 
 -- what is left then
-module _ (N : List Node) (S : List ℕ) (M : List Node) (T : List ℕ) (gone : List ℕ) (before mid after : List (BitSet 4)) (i : ℕ) (all : length S ≤ i) (c : Cut gone (length T) before mid i) where
+module _ (N : List Node) (S : List ℕ) (M : List Node) (T : List ℕ) (gone : List ℕ) (before mid after : List (BitSet 4)) (i : ℕ) (all : length S ≤ i) (c : Cut gone before mid i) where
   fewer-cut : (k j : ℕ) → k < length S → j < length T → left mid k j ≡ 1 → (left before k j ≡ 1) × (bit_at gone j ≡ 0)
-  fewer-cut k j h g e = (c.done k (omega arith)).fewer j g e
+  fewer-cut k j h g e = (c.done k (omega arith)).fewer j e
 
   pub cut-picked : (picks : List (Option ℕ)) → Fewer mid after (length S) (length T) → Picked before (length S) (length T) picks → Picked after (length S) (length T) picks
   cut-picked picks f p = record { within = p.within; alone = λ k h x e j g y. p.alone k h x e j g (fewer-cut k j h g (f k j h g y)).0 }
@@ -78,7 +91,7 @@ module _ (N : List Node) (S : List ℕ) (M : List Node) (T : List ℕ) (gone : L
   pub cut-spared : {C : ℕ} (slots : List (Slot C)) → Linked N S M T slots → Pruned slots (length S) (length T) mid after → Spared N S M T before → SparedOutside N S M T gone after
   cut-spared slots linked p spared f inside w =
       p.keeps f (λ x. place_of M (w.0 x)) (fits-works N S M T slots f linked (λ k h. (inside k h).0) w)
-      (λ k h. let a = spared f (λ l g. (inside l g).0) w k h in (a.0, (c.done k (omega arith)).kept (f k) a.0 a.1 (inside k h).1))
+      (λ k h. let a = spared f (λ l g. (inside l g).0) w k h in (a.0, (c.done k (omega arith)).kept (f k) a.1 (inside k h).1))
 
 -- a choice of targets that are not gone, by the literals
 module _ (N : List Node) (S : List ℕ) (M : List Node) (T : List ℕ) (gone : List ℕ) where

@@ -1,6 +1,6 @@
 mod Marking
 mod Covered
-mod Sets
+pub mod Sets
 mod Pruning
 mod Abreast
 mod Checked
@@ -10,5 +10,5 @@ mod Links
 pub mod Choosing
 mod Firsts
 mod Walking
-pub mod Avoiding
+mod Avoiding
 mod FirstPlaces

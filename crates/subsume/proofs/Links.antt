@@ -33,6 +33,15 @@ module _ (N : List Node) (S : List ℕ) (M : List Node) (T : List ℕ) {C : ℕ}
       (cases_eq s (length slots))
 
 module _ (N : List Node) (S : List ℕ) (M : List Node) (T : List ℕ) where
+  -- the labels of the words that the targets give the variable
+  pub named-by : (i x : ℕ) (at : List (Option ℕ)) (labels : List ℕ) → Gives N S M T i x at
+      → ((j q : ℕ) → j < length T → get_or at j None ≡ Some q → get_or labels j 0 ≡ place_of M (word_at M q)) → Named N S M T i x labels
+  named-by i x at labels gives told j h θ t = by-word (get_or at j None) refl
+    where
+      by-word : (o : Option ℕ) → get_or at j None ≡ o → get_or labels j 0 ≡ place_of M (θ x)
+      by-word None e = absurd ((gives j h).1 e θ t)
+      by-word (Some q) e = told j q h e ∙ ap (place_of M) (sym (((gives j h).0 q e).1 θ t))
+
   -- targets that give the variable another word than the literal's slot has
   pub ruled-by : (i x : ℕ) (before after : List (Option ℕ)) (labels others : List ℕ) → Gives N S M T i x before
       → ((j q : ℕ) → get_or before j None ≡ Some q → get_or labels j 0 ≡ place_of M (word_at M q)) → Named N S M T i x others

@@ -7,7 +7,7 @@ use Rattle.std.specs.Option.{is_some}
 use Rattle.subsume.specs.declared.bits.BitSet.{BitSet}
 use Rattle.subsume.specs.declared.slot.Slot.{Slot}
 use Rattle.subsume.specs.Bits.{bit_at}
-use Rattle.subsume.specs.Choices.{left, pick, picked, Fewer, Taken, Picked, Clear, Chosen, undone}
+use Rattle.subsume.specs.Choices.{left, pick, picked, Fewer, Taken, Picked, Uses, Clear, Chosen, undone}
 
 -- a choice that is made counts no more
 pub undone-set : (picks : List (Option ℕ)) (i j : ℕ) → undone (set picks i (Some j)) ≤ undone picks
@@ -59,10 +59,36 @@ module _ (m n : ℕ) where
   picked-taken slots sets after picks i j inside small p t =
       let fewer : Fewer sets t.mid m n = λ l k h b e.
       ⊎_elim
-      (λ (s : l ≡ i). ap (λ (x : ℕ). left sets x k) s ∙ t.narrowed.fewer k b (ap (λ (x : ℕ). left t.mid x k) (sym s) ∙ e))
+      (λ (s : l ≡ i).
+      let there : left t.mid i k ≡ 1 = ap (λ (x : ℕ). left t.mid x k) (sym s) ∙ e in
+      let same : k ≡ j = t.narrowed.only k there in
+      ap (λ (x : ℕ). left sets x k) s ∙ ap (left sets i) same ∙ sym t.narrowed.here ∙ sym (ap (left t.mid i) same) ∙ there)
       (λ s. ap (λ (ws : List ℕ). bit_at ws k) (sym (t.others l s)) ∙ e)
       (cases_eq l i) in
-      picked-fewer t.mid after (set picks i (Some j)) (picked-set t.mid picks i j inside small (picked-fewer sets t.mid picks p fewer) t.narrowed.only) t.pruned.fewer
+      picked-fewer t.mid after (set picks i (Some j)) (picked-set t.mid picks i j inside small (picked-fewer sets t.mid picks p fewer) (λ k b. t.narrowed.only k)) t.pruned.fewer
+
+-- the targets that are chosen for one literal more
+module _ (picks : List (Option ℕ)) (i : ℕ) (words : List ℕ) (u : Uses picks i words) where
+  pub uses-same : pick picks i ≡ None → Uses picks (i + 1) words
+  uses-same e = record {
+    each = λ l h x s. ⊎_elim (λ (z : l ≡ i). let n : None ≡ Some x = sym e ∙ sym (ap (pick picks) z) ∙ s in cc) (λ n. u.each l (omega (arith, h, n)) x s) (cases_eq l i);
+    only = λ x b. let o = u.only x b in (o.0, omega (arith, o.1), o.2);
+  }
+
+  pub uses-more : (j : ℕ) (after : List ℕ) → pick picks i ≡ Some j → bit_at after j ≡ 1 → ((l : ℕ) → (l ≡ j → ⊥) → bit_at after l ≡ bit_at words l) → Uses picks (i + 1) after
+  uses-more j after e here others = record {
+    each = λ l h x s. ⊎_elim
+        (λ (z : l ≡ i). let n : Some j ≡ Some x = sym e ∙ sym (ap (pick picks) z) ∙ s in let y : j ≡ x = cc in ap (bit_at after) (sym y) ∙ here)
+        (λ n. ⊎_elim (λ (y : x ≡ j). ap (bit_at after) y ∙ here) (λ y. others x y ∙ u.each l (omega (arith, h, n)) x s) (cases_eq x j))
+        (cases_eq l i);
+    only = λ x b. ⊎_elim
+        (λ (y : x ≡ j). (i, omega arith, e ∙ ap Some (sym y)))
+        (λ y. let o = u.only x (sym (others x y) ∙ b) in (o.0, omega (arith, o.1), o.2))
+        (cases_eq x j);
+  }
+
+pub uses-none : (picks : List (Option ℕ)) (words : List ℕ) → ((k : ℕ) → bit_at words k ≡ 0) → Uses picks 0 words
+uses-none picks words none = record { each = λ l h x s. absurd (omega arith); only = λ x b. absurd (omega (arith, b, none x)) }
 
 -- whether a choice is still to be made
 abbrev pub unmade : ℕ × Option ℕ → Bool

@@ -1,26 +1,34 @@
 -- What the search tries, and what it leaves out.
-use Rattle.std.proofs.Common.{◌≡◌, ℕ, ◌+◌, ◌<◌, ◌≤◌, Bool, true, List, length, Some, None, Option, IfSome, is_some, sym, ap, ◌∙◌, ⊎_elim, arith}
+use Rattle.std.proofs.Common.{◌≡◌, ℕ, ◌+◌, ◌*◌, ◌<◌, ◌≤◌, Bool, true, List, length, Some, None, Option, IfSome, is_some, inl, inr, refl, sym, ap, subst, ◌∙◌, ⊎_elim, arith}
 use Rattle.std.proofs.lemmas.Bool.{cases_eq, false≢true}
 use Rattle.term.specs.declared.node.Node.{Node}
 use Rattle.subsume.specs.declared.bits.BitSet.{BitSet}
 use Rattle.subsume.specs.declared.slot.Slot.{Slot}
 use Rattle.subsume.specs.Bits.{bit_at}
-use Rattle.subsume.specs.Choices.{left, slot_at, picked, Among, Fits, Pruned, Taken, Made}
+use Rattle.subsume.specs.Choices.{left, slot_at, picked, Among, Fits, Pruned, HasTurn, Taken, Made}
 use Rattle.subsume.specs.Meeting.{place_of}
 use Rattle.subsume.specs.Solving.{Works, Linked, Open, Solved, Hopeful, Spared}
 
 module _ (N : List Node) (S : List ℕ) (M : List Node) (T : List ℕ) where
-  -- no choice works that takes one of the first j targets for literal i
-  pub Out : List (BitSet 4) → (i j : ℕ) → Type 0
-  Out sets i j = (h : Hopeful N S M T sets) → h.0 i < j → ⊥
+  -- no choice works whose target for literal i has had its turn
+  pub Out : List (BitSet 4) → (first : List ℕ) → (i n k : ℕ) → Type 0
+  Out sets first i n k = (h : Hopeful N S M T sets) (t : ℕ) → t < k → HasTurn first n (h.0 i) t → ⊥
 
-  pub out_none : (sets : List (BitSet 4)) (i : ℕ) → Out sets i 0
+  pub out_none : (sets : List (BitSet 4)) (first : List ℕ) (i n : ℕ) → Out sets first i n 0
   unfolding Out
-  out_none sets i h l = omega arith
+  out_none sets first i n h t l = omega arith
 
-  pub out-more : (sets : List (BitSet 4)) (i j : ℕ) → Out sets i j → ((h : Hopeful N S M T sets) → h.0 i ≡ j → ⊥) → Out sets i (j + 1)
+  pub out-more : (sets : List (BitSet 4)) (first : List ℕ) (i n k : ℕ) → Out sets first i n k → ((h : Hopeful N S M T sets) → HasTurn first n (h.0 i) k → ⊥) → Out sets first i n (k + 1)
   unfolding Out
-  out-more sets i j o n h l = ⊎_elim (λ (e : h.0 i ≡ j). n h e) (λ e. o h (omega (arith, e))) (cases_eq (h.0 i) j)
+  out-more sets first i n k o now h t l turn =
+      ⊎_elim (λ (e : t ≡ k). now h (subst (HasTurn first n (h.0 i)) e turn)) (λ e. o h t (omega (arith, e)) turn) (cases_eq t k)
+
+  -- one target has a turn
+  pub one-turn : (first : List ℕ) (n j l k : ℕ) → j < n → l < n → HasTurn first n j k → HasTurn first n l k → j ≡ l
+  one-turn first n j l k a b (inl x) (inl y) = omega (arith, x.0, y.0)
+  one-turn first n j l k a b (inl x) (inr y) = absurd (omega (arith, x.0, y.0, a))
+  one-turn first n j l k a b (inr x) (inl y) = absurd (omega (arith, x.0, y.0, b))
+  one-turn first n j l k a b (inr x) (inr y) = omega (arith, x.0, y.0)
 
   -- a choice that works agrees with the table
   pub fits-works : {C : ℕ} (slots : List (Slot C)) (f : ℕ → ℕ) → Linked N S M T slots → ((i : ℕ) → i < length S → f i < length T)
@@ -61,9 +69,14 @@ module _ (N : List Node) (S : List ℕ) (M : List Node) (T : List ℕ) where
   found None r h e t = absurd (false≢true (sym e ∙ t))
   found (Some picks) r h e t = (picked picks, (λ i inside. (h.0 i inside).2), h.1)
 
-  pub out-all : (sets : List (BitSet 4)) (i j : ℕ) → i < length S → length T ≤ j → Out sets i j → Hopeful N S M T sets → ⊥
+  pub out-all : (sets : List (BitSet 4)) (first : List ℕ) (i n k : ℕ) → i < length S → length T ≡ n → 2 * n ≤ k → Out sets first i n k → Hopeful N S M T sets → ⊥
   unfolding Out
-  out-all sets i j inside all o h = o h (omega (arith, (h.1 i inside).0))
+  out-all sets first i n k inside all past o h =
+      let small = (h.1 i inside).0 in
+      ⊎_elim
+      (λ (b : bit_at first (h.0 i) ≡ 1). o h (h.0 i) (omega (arith, small, all, past)) (inl (refl, b)))
+      (λ b. o h (h.0 i + n) (omega (arith, small, all, past)) (inr (refl, b)))
+      (cases_eq (bit_at first (h.0 i)) 1)
 
   -- a target that is not left
   pub gone : (sets : List (BitSet 4)) (i j : ℕ) → i < length S → (left sets i j ≡ 1 → ⊥) → (h : Hopeful N S M T sets) → h.0 i ≡ j → ⊥

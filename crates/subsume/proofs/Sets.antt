@@ -1,11 +1,12 @@
 -- What is in a set of numbers after a word of it has changed, and its least number.
 use Rattle.std.proofs.Common.{◌≡◌, ℕ, ◌+◌, ◌-◌, ◌*◌, ◌/◌, ◌%◌, ◌^◌, ◌<◌, ◌≤◌, List, length, get_or, set, replicate, Some, None, bit_and, ap, ◌∙◌, sym, ap₂, ⊎_elim, ◌≢◌, arith}
 use Rattle.std.specs.Int.{w64, trailing_zeros, bit_not, bit_at as bit}
-use Rattle.std.proofs.lemmas.Nat.Bits.{bit_at-zero, bit_at-trailing_zeros, bit_at_ones, bit_at_above, bit_at_clear_same, bit_at_clear_other}
+use Rattle.std.proofs.lemmas.Nat.Bits.{bit_at-lt, bit_at-zero, bit_at-trailing_zeros, bit_at_ones, bit_at_above, bit_at_clear_same, bit_at_clear_other}
 use Rattle.std.proofs.lemmas.List.{get_or-set_same, get_or-set_other, get_or-replicate, get_or_past, length-replicate}
-use Rattle.std.proofs.lemmas.Nat.{and_le_l}
+use Rattle.std.proofs.lemmas.Nat.{and_le_l, shr-shr}
+use Rattle.std.proofs.Math.Nat.{div-le_self}
 use Rattle.std.proofs.lemmas.Bool.{cases_eq, cases_lt}
-use Rattle.subsume.specs.Bits.{bit_at, First, Parted}
+use Rattle.subsume.specs.Bits.{bit_at, FirstFrom, Parted}
 
 module _ (words : List ℕ) (k v : ℕ) (inside : k < 64 * length words) where
   pub set_here : bit_at (set words (k / 64) v) k ≡ bit v (k % 64)
@@ -24,6 +25,14 @@ module _ (words : List ℕ) (k v : ℕ) (inside : k < 64 * length words) where
       (λ e. ap (λ (x : ℕ). bit x (l % 64)) (get_or-set_other words (k / 64) (l / 64) v 0 e))
       (cases_eq (l / 64) (k / 64))
 
+pub bit-below : (words : List ℕ) (k : ℕ) → bit_at words k < 2
+unfolding bit_at
+bit-below words k = bit_at-lt (get_or words (k / 64) 0) (k % 64)
+
+-- a number is in a set or not
+pub absent : (words : List ℕ) (k : ℕ) → (bit_at words k ≡ 1 → ⊥) → bit_at words k ≡ 0
+absent words k n = ⊎_elim (λ e. absurd (n e)) (λ m. omega (arith, bit-below words k, m)) (cases_eq (bit_at words k) 1)
+
 pub empty-word : (words : List ℕ) (l : ℕ) → get_or words (l / 64) 0 ≡ 0 → bit_at words l ≡ 0
 unfolding bit_at
 empty-word words l e = ap (λ (x : ℕ). bit x (l % 64)) e ∙ bit_at-zero (l % 64)
@@ -40,28 +49,71 @@ pub all-in : (n k : ℕ) → k < 64 * n → bit_at (replicate n (2 ^ 64 - 1)) k 
 unfolding bit_at
 all-in n k h = ap (λ (x : ℕ). bit x (k % 64)) (get_or-replicate n (k / 64) (2 ^ 64 - 1) 0 (omega arith)) ∙ bit_at_ones 64 (k % 64) (omega arith)
 
--- the least bit of the first word that has bits
-pub first-word : (words : List ℕ) (w : ℕ) → w < length words → ((v : ℕ) → v < w → get_or words v 0 ≡ 0) → 0 < get_or words w 0 → get_or words w 0 < 2 ^ 64
-    → First words (Some (64 * w + trailing_zeros w64 (get_or words w 0)))
-unfolding bit_at
-first-word words w h before some fits =
-    let t = trailing_zeros w64 (get_or words w 0) in
-    let z = bit_at-trailing_zeros w64 (get_or words w 0) some fits in
-    let small : t < 64 = z.0 in (
-      omega arith,
-      let here : (64 * w + t) / 64 ≡ w = omega arith in
-          let place : (64 * w + t) % 64 ≡ t = omega arith in
-          rw (here, place) z.1,
-      λ l k. ⊎_elim
-          (λ (b : l / 64 < w). empty-word words l (before (l / 64) b))
-          (λ (b : w ≤ l / 64).
-          let here : l / 64 ≡ w = omega arith in
-          rw here (z.2 (l % 64) (omega arith)))
-          (cases_lt (l / 64) w),
-    )
+bit-shifted : (n s i : ℕ) → bit (n / 2 ^ s) i ≡ bit n (s + i)
+bit-shifted n s i = ap (λ (x : ℕ). x % 2) (shr-shr n s i)
 
-pub no-first : (words : List ℕ) → ((v : ℕ) → v < length words → get_or words v 0 ≡ 0) → First words None
-no-first words none l h = empty-word words l (none (l / 64) (omega arith))
+-- the least number from a number on
+module _ (words : List ℕ) (from : ℕ) (inside : from / 64 < length words) where
+  abbrev word : ℕ
+  word = get_or words (from / 64) 0
+
+  abbrev rest : ℕ
+  rest = word / 2 ^ (from % 64)
+
+  pub first-here : 0 < rest → word < 2 ^ 64 → FirstFrom words from (Some (from + trailing_zeros w64 rest))
+  unfolding bit_at
+  first-here some small =
+      let fits : rest < 2 ^ 64 = omega (arith, small, div-le_self word (2 ^ (from % 64))) in
+      let t = trailing_zeros w64 rest in
+      let z = bit_at-trailing_zeros w64 rest some fits in
+      let here : bit word (from % 64 + t) ≡ 1 = sym (bit-shifted word (from % 64) t) ∙ z.1 in
+      let below : from % 64 + t < 64 =
+      ⊎_elim (λ h. h) (λ (h : 64 ≤ from % 64 + t). let zero : bit word (from % 64 + t) ≡ 0 = bit_at_above word 64 (from % 64 + t) small h in absurd (omega (arith, zero, here))) (cases_lt (from % 64 + t) 64) in (
+        omega arith,
+        omega (arith, below),
+        let w : (from + t) / 64 ≡ from / 64 = omega (arith, below) in
+            let p : (from + t) % 64 ≡ from % 64 + t = omega (arith, below) in
+            rw (w, p) here,
+        λ l h k.
+            let w : l / 64 ≡ from / 64 = omega (arith, below, h, k) in
+            let p : l % 64 ≡ from % 64 + (l - from) = omega (arith, below, h, k) in
+            rw (w, p) (sym (bit-shifted word (from % 64) (l - from)) ∙ z.2 (l - from) (omega (arith, h, k))),
+      )
+
+  none_here : rest ≡ 0 → (l : ℕ) → from ≤ l → l / 64 ≡ from / 64 → bit_at words l ≡ 0
+  unfolding bit_at
+  none_here e l h w =
+      let p : l % 64 ≡ from % 64 + (l - from) = omega (arith, h, w) in
+      rw (w, p) (sym (bit-shifted word (from % 64) (l - from)) ∙ ap (λ (x : ℕ). bit x (l - from)) e ∙ bit_at-zero (l - from))
+
+  pub first-later : rest ≡ 0 → (v : ℕ) → from / 64 < v → v < length words → ((u : ℕ) → from / 64 < u → u < v → get_or words u 0 ≡ 0) → 0 < get_or words v 0 → get_or words v 0 < 2 ^ 64
+      → FirstFrom words from (Some (64 * v + trailing_zeros w64 (get_or words v 0)))
+  unfolding bit_at
+  first-later e v later within none some fits =
+      let t = trailing_zeros w64 (get_or words v 0) in
+      let z = bit_at-trailing_zeros w64 (get_or words v 0) some fits in
+      let small : t < 64 = z.0 in (
+        omega arith,
+        omega arith,
+        let w : (64 * v + t) / 64 ≡ v = omega arith in
+            let p : (64 * v + t) % 64 ≡ t = omega arith in
+            rw (w, p) z.1,
+        λ l h k.
+            ⊎_elim
+            (λ (w : l / 64 ≡ from / 64). none_here e l h w)
+            (λ o. ⊎_elim
+            (λ (b : l / 64 < v). empty-word words l (none (l / 64) (omega (arith, h, o)) b))
+            (λ (b : v ≤ l / 64). let w : l / 64 ≡ v = omega (arith, b, k) in rw w (z.2 (l % 64) (omega (arith, b, k))))
+            (cases_lt (l / 64) v))
+            (cases_eq (l / 64) (from / 64)),
+      )
+
+  pub no-later : rest ≡ 0 → ((u : ℕ) → from / 64 < u → u < length words → get_or words u 0 ≡ 0) → FirstFrom words from None
+  no-later e none l h =
+      ⊎_elim
+      (λ (w : l / 64 ≡ from / 64). none_here e l h w)
+      (λ o. ⊎_elim (λ (b : l / 64 < length words). empty-word words l (none (l / 64) (omega (arith, h, o)) b)) (λ b. none-past words l b) (cases_lt (l / 64) (length words)))
+      (cases_eq (l / 64) (from / 64))
 
 -- a word without a bit
 abbrev pub cleared : (word k : ℕ) → ℕ

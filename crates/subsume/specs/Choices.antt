@@ -1,5 +1,5 @@
 -- Choices of a target for each literal, and the candidates that are left.
-use Rattle.std.specs.Prelude.{◌≡◌, ℕ, suc, ◌*◌, ◌<◌, ◌≤◌, List, [], ◌∷◌, length, replicate, Some, None, Option, slice_index, slice_index_or, unwrap_or, ◌≢◌}
+use Rattle.std.specs.Prelude.{◌≡◌, ℕ, suc, ◌+◌, ◌*◌, ◌<◌, ◌≤◌, List, [], ◌∷◌, length, replicate, Some, None, Option, slice_index, slice_index_or, unwrap_or, ◌≢◌, ◌⊎◌}
 use Rattle.std.proofs.Common.{lit≤}
 use Rattle.std.proofs.lemmas.List.{length-replicate}
 use Rattle.subsume.specs.declared.bits.BitSet.{BitSet}
@@ -74,12 +74,10 @@ pub record Sifted (before after : List ℕ) (labels : List ℕ) (j : ℕ) (marks
   pub fewer : (i : ℕ) → i < j → bit_at after i ≡ 1 → bit_at before i ≡ 1
   pub marked : (i : ℕ) → i < j → bit_at after i ≡ 1 → Shows marks (slice_index labels i)
 
--- of the first n targets, only such as are not j were struck out
-pub record Narrowed (before after : List ℕ) (j n : ℕ) : Type 0 where
-  pub outside : (l : ℕ) → n ≤ l → bit_at after l ≡ bit_at before l
+-- all targets but j were struck out
+pub record Narrowed (before after : List ℕ) (j : ℕ) : Type 0 where
   pub here : bit_at after j ≡ bit_at before j
-  pub only : (k : ℕ) → k < n → bit_at after k ≡ 1 → k ≡ j
-  pub fewer : (k : ℕ) → k < n → bit_at after k ≡ 1 → bit_at before k ≡ 1
+  pub only : (k : ℕ) → bit_at after k ≡ 1 → k ≡ j
 
 -- an answer is the only target below n that is left
 abbrev pub Settled : Option ℕ → List ℕ → (n : ℕ) → Type 0
@@ -90,7 +88,7 @@ Settled None words n = Unit {0}
 pub record Taken {N : ℕ} (slots : List (Slot N)) (m n : ℕ) (before : List (BitSet 4)) (i j : ℕ) (after : List (BitSet 4)) : Type 0 where
   pub mid : List (BitSet 4)
   pub others : (k : ℕ) → (k ≢ i) → row mid k ≡ row before k
-  pub narrowed : Narrowed (row before i) (row mid i) j n
+  pub narrowed : Narrowed (row before i) (row mid i) j
   pub pruned : Pruned slots m n mid after
 
 -- the choice for literal i, or none, where it is still to be made; and the same, or 0
@@ -103,6 +101,20 @@ picked picks i = unwrap_or (pick picks i) 0
 -- each of m literals has its choice among n targets
 abbrev pub Made : List (Option ℕ) → (m n : ℕ) → Type 0
 Made picks m n = (i : ℕ) → i < m → (i < length picks) × (pick picks i ≡ Some (picked picks i)) × (picked picks i < n)
+
+-- just the targets that are chosen for one of m literals are in the set
+pub record Uses (picks : List (Option ℕ)) (m : ℕ) (words : List ℕ) : Type 0 where
+  pub each : (i : ℕ) → i < m → (j : ℕ) → pick picks i ≡ Some j → bit_at words j ≡ 1
+  pub only : (j : ℕ) → bit_at words j ≡ 1 → (i : ℕ) × (i < m) × (pick picks i ≡ Some j)
+
+-- of n targets, those in a set have their turns first, and then the others
+abbrev pub HasTurn : (first : List ℕ) → (n j k : ℕ) → Type 0
+HasTurn first n j k = ((j ≡ k) × (bit_at first j ≡ 1)) ⊎ ((j + n ≡ k) × (bit_at first j ≡ 1 → ⊥))
+
+-- an answer is the target that has the turn k; or none, where none has
+abbrev pub Turn : (first : List ℕ) → (n k : ℕ) → Option ℕ → Type 0
+Turn first n k (Some j) = (j < n) × HasTurn first n j k
+Turn first n k None = (j : ℕ) → j < n → HasTurn first n j k → ⊥
 
 -- how many of the choices are still to be made
 abbrev pub undone : List (Option ℕ) → ℕ
@@ -129,8 +141,7 @@ pub record Clear (gone : List ℕ) (sets : List (BitSet 4)) (m n : ℕ) (picks :
 abbrev pub Avoids : (gone : List ℕ) (m : ℕ) → List (Option ℕ) → Type 0
 Avoids gone m picks = (i : ℕ) → i < m → bit_at gone (picked picks i) ≡ 0
 
--- of the first n targets, just those in the set were struck out
-pub record Removed (gone : List ℕ) (before after : List ℕ) (n : ℕ) : Type 0 where
-  pub outside : (l : ℕ) → n ≤ l → bit_at after l ≡ bit_at before l
-  pub kept : (j : ℕ) → j < n → bit_at before j ≡ 1 → bit_at gone j ≡ 0 → bit_at after j ≡ 1
-  pub fewer : (j : ℕ) → j < n → bit_at after j ≡ 1 → (bit_at before j ≡ 1) × (bit_at gone j ≡ 0)
+-- just the targets in the set were struck out
+pub record Removed (gone : List ℕ) (before after : List ℕ) : Type 0 where
+  pub kept : (j : ℕ) → bit_at before j ≡ 1 → bit_at gone j ≡ 0 → bit_at after j ≡ 1
+  pub fewer : (j : ℕ) → bit_at after j ≡ 1 → (bit_at before j ≡ 1) × (bit_at gone j ≡ 0)

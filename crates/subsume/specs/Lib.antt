@@ -4,3 +4,4 @@ pub mod Meeting
 pub mod Solving
 pub mod Steps
 pub mod FirstChoices
+pub mod Ending

@@ -1,6 +1,6 @@
 // Sets of numbers, as bits in words of 64.
 ghost use Rattle.std.specs.Prelude.{◌≡◌, ℕ, ◌*◌, ◌<◌, ◌≤◌, ⊤, length, map, sum, count_ones, Decides, ◌≢◌};
-ghost use Rattle.subsume.specs.Bits.{bit_at, First, Popped, Only, Parted};
+ghost use Rattle.subsume.specs.Bits.{bit_at, First, FirstFrom, Popped, PoppedFrom, Only, Parted};
 
 use std::alloc::AllocError;
 
@@ -72,8 +72,28 @@ impl<const W: usize> BitSet<W> {
     pub fn first(&self) -> Option<usize>
         ensures { First self.now.words result }
     {
-        let w = self.words.iter().position(|word| *word != 0)?;
-        Some(64 * w + self.words[w].trailing_zeros() as usize)
+        self.first_from(0)
+    }
+
+    // The least number in the set from `from` on.
+    fn first_from(&self, from: usize) -> Option<usize>
+        ensures { FirstFrom self.now.words from result }
+    {
+        let w = from / 64;
+        if w >= W {
+            return None;
+        }
+        let rest = self.words[w] >> (from % 64);
+        if rest != 0 {
+            return Some(from + rest.trailing_zeros() as usize);
+        }
+        // By number: over a part of the words the proof would have to count from two starts.
+        for v in w + 1..W {
+            if self.words[v] != 0 {
+                return Some(64 * v + self.words[v].trailing_zeros() as usize);
+            }
+        }
+        None
     }
 
     // Whether no number is in the set.
@@ -90,6 +110,19 @@ impl<const W: usize> BitSet<W> {
         let k = self.first()?;
         self.exclude(k);
         Some(k)
+    }
+
+    // Takes out the least number from `from` on; where none is left there, the least.
+    pub fn pop_from(&mut self, from: usize) -> Option<usize>
+        ensures { PoppedFrom self.old.words self.new.words from result }
+    {
+        match self.first_from(from) {
+            Some(k) => {
+                self.exclude(k);
+                Some(k)
+            }
+            None => self.pop(),
+        }
     }
 
     // The number in the set, where it has no other.

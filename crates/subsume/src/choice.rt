@@ -7,12 +7,14 @@ ghost use Rattle.subsume.specs.Steps.{NoneFrom, FirstFrom, Begun};
 ghost use Rattle.subsume.specs.FirstChoices.{Chooses, FirstChoice};
 
 use super::check::check;
+use super::places::Targets;
+use super::slot::Slots;
 use super::state::State;
 use super::table::Table;
 use super::view::View;
 use bounded::Bounded;
 
-impl<const N: usize, const K: usize> Table<'_, N, K> {
+impl<const N: usize, const W: usize> Table<'_, N, W> {
     // Whether a choice works.
     fn works<const V: usize>(&self, choice: &[u16]) -> bool
         requires variables { Below V self.now.literals.nodes.now × (V ≤ 65536) }
@@ -93,20 +95,22 @@ impl<const N: usize, const K: usize> Table<'_, N, K> {
 
 impl View<'_> {
     // The first choice, in dictionary order, of a literal of the other clause for each literal of this one; none where this
-    // one does not cover the other. N, K and V are as in `covers`.
-    pub fn first_choice<const N: usize, const K: usize, const V: usize>(
+    // one does not cover the other. The sizes are as in `covers`.
+    pub fn first_choice<const N: usize, const K: usize, const V: usize, const W: usize>(
         self,
         other: View<'_>,
     ) -> Option<Bounded<u16, N>>
-        requires few { (length self.starts.now ≤ N) × (length other.starts.now ≤ N) × (N ≤ 256) × (K ≤ 65536) × (length other.nodes.now ≤ V) }
+        requires few { (length self.starts.now ≤ N) × (length other.starts.now ≤ N) × (N ≤ 256) × (K ≤ 65536) × (W ≤ 1024) × (length other.nodes.now ≤ V) }
         requires variables { Below V self.nodes.now × (V ≤ 65535) }
         ensures { MatchOption result (Covers (literals_at self.entry.nodes.now self.entry.starts.now) (literals_at other.entry.nodes.now other.entry.starts.now) → ⊥) (λ choice. FirstChoice (literals_at self.entry.nodes.now self.entry.starts.now) (literals_at other.entry.nodes.now other.entry.starts.now) (elems choice)) }
     {
         // One search decides what would else take one for each target of the first literal.
-        if !self.covers::<N, K, V>(other) {
+        if !self.covers::<N, K, V, W>(other) {
             return None;
         }
-        let table = Table::<N, K>::link::<V>(self, other);
+        let targets = Targets::<V>::new(other);
+        let mut slots = Slots::<N, K>::new();
+        let table = Table::<N, W>::link(self, &targets, &mut slots);
         let (state, choice) = table.begin();
         table.first_from::<V>(state, choice)
     }

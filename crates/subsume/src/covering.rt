@@ -3,18 +3,26 @@ ghost use Rattle.std.specs.Prelude.{◌≤◌, length, Decides};
 ghost use Rattle.term.specs.Matched.{Below};
 ghost use Rattle.clauses.specs.Clauses.{Covers, literals_at};
 
+use super::places::Targets;
+use super::slot::Slots;
 use super::table::Table;
 use super::view::View;
 
 impl View<'_> {
     // Whether some substitution turns each literal into a literal of the other. N bounds the literals of each, and K the slots
-    // that help the search; V is more than the number of any variable, and no less than the other has nodes.
-    pub fn covers<const N: usize, const K: usize, const V: usize>(self, other: View<'_>) -> bool
-        requires few { (length self.starts.now ≤ N) × (length other.starts.now ≤ N) × (N ≤ 256) × (K ≤ 65536) × (length other.nodes.now ≤ V) }
+    // that help the search; V is more than the number of any variable, and no less than the other has nodes; the sets of
+    // words and of variables that help the search hold those below 64 * W.
+    pub fn covers<const N: usize, const K: usize, const V: usize, const W: usize>(
+        self,
+        other: View<'_>,
+    ) -> bool
+        requires few { (length self.starts.now ≤ N) × (length other.starts.now ≤ N) × (N ≤ 256) × (K ≤ 65536) × (W ≤ 1024) × (length other.nodes.now ≤ V) }
         requires variables { Below V self.nodes.now × (V ≤ 65535) }
         ensures { Decides result (Covers (literals_at self.entry.nodes.now self.entry.starts.now) (literals_at other.entry.nodes.now other.entry.starts.now)) }
     {
-        let table = Table::<N, K>::link::<V>(self, other);
+        let targets = Targets::<V>::new(other);
+        let mut slots = Slots::<N, K>::new();
+        let table = Table::<N, W>::link(self, &targets, &mut slots);
         table.solvable::<V>(table.start())
     }
 }

@@ -17,6 +17,8 @@ mod table;
 mod view;
 
 pub use bits::BitSet;
+pub use places::Targets;
+pub use slot::Slots;
 pub use state::State;
 pub use table::Table;
 pub use view::View;

@@ -1,6 +1,6 @@
 // Choices that take none of some targets: those that are gone.
-ghost use Rattle.std.specs.Prelude.{◌≡◌, ℕ, ◌<◌, ◌≤◌, None, length, All, MatchOption};
-ghost use Rattle.bounded.specs.Elems.{elems};
+ghost use Rattle.std.specs.Prelude.{◌≡◌, ℕ, ◌-◌, ◌<◌, ◌≤◌, min, None, length, All, MatchOption};
+ghost use Rattle.std.specs.Int.{bit_at as bit};
 ghost use Rattle.subsume.specs.Choices.{Removed, Picked, Clear, pick, picked};
 ghost use Rattle.clauses.specs.Clauses.{literals_at};
 ghost use Rattle.term.specs.Matched.{Below};
@@ -12,19 +12,23 @@ use super::bits::BitSet;
 use super::state::State;
 use super::table::Table;
 
-// Strikes out, of the first `n` targets, those that are gone.
-fn remove(left: &mut BitSet<4>, gone: &BitSet<4>, n: usize)
-    requires { n ≤ 256 }
-    ensures { Removed gone.now.words left.old.words left.new.words n }
+// Strikes out the targets that are gone.
+fn remove(left: &mut BitSet<4>, gone: &BitSet<4>)
+    ensures { Removed gone.now.words left.old.words left.new.words }
 {
-    for j in 0..n {
-        if gone.test(j) {
-            left.exclude(j);
-        }
+    for w in 0..4 {
+        left.words[w] = minus(left.words[w], gone.words[w]);
     }
 }
 
-impl<const N: usize, const K: usize> Table<'_, N, K> {
+// The bits of a word that another has not.
+fn minus(word: u64, other: u64) -> u64
+    ensures { (k : ℕ) → k < 64 → bit result k ≡ min (bit word k) (1 - bit other k) }
+{
+    word & !other
+}
+
+impl<const N: usize, const W: usize> Table<'_, N, W> {
     // The state before a choice is made, without the targets that are gone.
     fn without(&self, start: &State<N>, gone: &BitSet<4>) -> State<N>
         requires picked { Picked start.now.sets (length self.now.literals.starts.now) (length self.now.targets.starts.now) start.now.picks }
@@ -35,9 +39,9 @@ impl<const N: usize, const K: usize> Table<'_, N, K> {
         ensures spared { SparedOutside self.now.literals.nodes.now self.now.literals.starts.now self.now.targets.nodes.now self.now.targets.starts.now gone.now.words result.sets }
     {
         let mut sets = start.sets;
-        let mut queue = BitSet::<N>::new();
+        let mut queue = BitSet::<W>::new();
         for i in 0..self.literals.len() {
-            remove(&mut sets[i], gone, self.targets.len());
+            remove(&mut sets[i], gone);
             self.enqueue(i, &mut queue);
         }
         self.prune(&mut sets, queue);

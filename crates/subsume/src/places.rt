@@ -3,6 +3,7 @@
 ghost use Rattle.std.specs.Prelude.{◌≡◌, ◌<◌, ◌≤◌, length};
 ghost use Rattle.term.specs.Coding.{word_at};
 ghost use Rattle.subsume.specs.Meeting.{place_of, Ends, Firsts, number, hash_of};
+ghost use Rattle.subsume.specs.Ending.{Ends-prop};
 
 use super::view::View;
 use term::{Node, Symbol, WordAt};
@@ -10,8 +11,31 @@ use term::{Node, Symbol, WordAt};
 // For each of at most P nodes, a place among them.
 pub type Places<const P: usize> = [u16; P];
 
+// The targets, with what is known of the words at their nodes.
+#[derive(Drop)]
+pub struct Targets<'a, const P: usize> {
+    pub view: View<'a>,
+    pub ends: Places<P>,
+    pub firsts: Places<P>,
+    ghost ended: { Ends view.nodes.now ends } by { Ends-prop view.nodes.now ends },
+    ghost named: { Firsts view.nodes.now firsts },
+}
+
+impl<'a, const P: usize> Targets<'a, P> {
+    pub fn new(view: View<'a>) -> Targets<'a, P>
+        requires { (length view.nodes.now ≤ P) × (P ≤ 65535) }
+        ensures { result.view ≡ view.entry }
+    {
+        Targets {
+            view,
+            ends: ends(view),
+            firsts: firsts(view),
+        }
+    }
+}
+
 // For each node of the targets where its word ends.
-pub fn ends<const P: usize>(targets: View<'_>) -> Places<P>
+fn ends<const P: usize>(targets: View<'_>) -> Places<P>
     requires { (length targets.nodes.now ≤ P) × (P ≤ 65535) }
     ensures { Ends targets.entry.nodes.now result }
 {
@@ -27,7 +51,7 @@ pub fn ends<const P: usize>(targets: View<'_>) -> Places<P>
 }
 
 // For each node of the targets the first place where the same word stands.
-pub fn firsts<const P: usize>(targets: View<'_>) -> Places<P>
+fn firsts<const P: usize>(targets: View<'_>) -> Places<P>
     requires { (length targets.nodes.now ≤ P) × (P ≤ 65535) }
     ensures { Firsts targets.entry.nodes.now result }
 {

@@ -1,7 +1,6 @@
 // Strikes out candidates that no choice of targets can take: those on which two literals that share a variable disagree.
 ghost use Rattle.std.specs.Prelude.{◌≡◌, ℕ, ◌*◌, ◌<◌, ◌≤◌, length, slice_index, option_copied, Decides, ◌≢◌, ◌⊎◌};
 ghost use Rattle.std.specs.Int.{bit_at as bit};
-ghost use Rattle.bounded.specs.Elems.{elems};
 ghost use Rattle.subsume.specs.Bits.{bit_at};
 ghost use Rattle.subsume.specs.Choices.{Shows, Marked, Shared, Standing, Sifted, Pruned};
 
@@ -13,11 +12,11 @@ use super::table::Table;
 const ROUNDS: usize = 65536;
 
 // Of the marked labels, those that a target gives that is left. A label beyond what can be marked strikes out nothing.
-fn mark<const N: usize>(left: &BitSet<4>, labels: &[u16], before: &BitSet<N>) -> BitSet<N>
-    requires { (length labels.now ≤ 256) × (N ≤ 1024) }
+fn mark<const W: usize>(left: &BitSet<4>, labels: &[u16], before: &BitSet<W>) -> BitSet<W>
+    requires { (length labels.now ≤ 256) × (W ≤ 1024) }
     ensures { Marked left.now.words labels.now (length labels.now) before.now.words result.words }
 {
-    let mut marks = BitSet::<N>::new();
+    let mut marks = BitSet::<W>::new();
     for w in 0..4 {
         if 64 * w >= labels.len() {
             break;
@@ -28,7 +27,7 @@ fn mark<const N: usize>(left: &BitSet<4>, labels: &[u16], before: &BitSet<N>) ->
 }
 
 // The same for the targets of one word.
-fn mark_word<const N: usize>(word: u64, labels: &[u16], before: &BitSet<N>, marks: &mut BitSet<N>)
+fn mark_word<const W: usize>(word: u64, labels: &[u16], before: &BitSet<W>, marks: &mut BitSet<W>)
     ensures here { (k : ℕ) → k < length labels.now → bit word k ≡ 1 → Shows before.now.words (slice_index labels.now k) → Shows marks.new.words (slice_index labels.now k) }
     ensures others { (l : ℕ) → bit_at marks.old.words l ≡ 1 → bit_at marks.new.words l ≡ 1 }
     ensures only { (l : ℕ) → bit_at marks.new.words l ≡ 1 → (bit_at marks.old.words l ≡ 1) ⊎ ((bit_at before.now.words l ≡ 1) × ((k : ℕ) × (k < 64) × (k < length labels.now) × (bit word k ≡ 1) × (slice_index labels.now k ≡ l))) }
@@ -40,7 +39,7 @@ fn mark_word<const N: usize>(word: u64, labels: &[u16], before: &BitSet<N>, mark
             break;
         }
         let label = labels[k] as usize;
-        if label < 64 * N && before.test(label) {
+        if label < 64 * W && before.test(label) {
             marks.include(label);
         }
         rest = others;
@@ -48,7 +47,7 @@ fn mark_word<const N: usize>(word: u64, labels: &[u16], before: &BitSet<N>, mark
 }
 
 // Strikes out the targets whose labels are not marked; says whether there were any.
-fn sift<const N: usize>(left: &mut BitSet<4>, labels: &[u16], marks: &BitSet<N>) -> bool
+fn sift<const W: usize>(left: &mut BitSet<4>, labels: &[u16], marks: &BitSet<W>) -> bool
     requires { length labels.now ≤ 256 }
     ensures sifted { Sifted left.old.words left.new.words labels.now (length labels.now) marks.now.words }
     ensures struck { Decides result (left.new.words ≢ left.old.words) }
@@ -64,7 +63,7 @@ fn sift<const N: usize>(left: &mut BitSet<4>, labels: &[u16], marks: &BitSet<N>)
 }
 
 // The targets of one word that are kept.
-fn sift_word<const N: usize>(word: u64, labels: &[u16], marks: &BitSet<N>) -> u64
+fn sift_word<const W: usize>(word: u64, labels: &[u16], marks: &BitSet<W>) -> u64
     ensures kept { (k : ℕ) → k < length labels.now → bit word k ≡ 1 → Shows marks.now.words (slice_index labels.now k) → bit result k ≡ 1 }
     ensures fewer { (k : ℕ) → bit result k ≡ 1 → bit word k ≡ 1 }
     ensures marked { (k : ℕ) → k < length labels.now → bit result k ≡ 1 → Shows marks.now.words (slice_index labels.now k) }
@@ -78,7 +77,7 @@ fn sift_word<const N: usize>(word: u64, labels: &[u16], marks: &BitSet<N>) -> u6
             break;
         }
         let label = labels[k] as usize;
-        if label < 64 * N && !marks.test(label) {
+        if label < 64 * W && !marks.test(label) {
             kept &= !(1u64 << k);
         }
         rest = others;
@@ -86,12 +85,12 @@ fn sift_word<const N: usize>(word: u64, labels: &[u16], marks: &BitSet<N>) -> u6
     kept
 }
 
-impl<const N: usize, const K: usize> Table<'_, N, K> {
+impl<const N: usize, const W: usize> Table<'_, N, W> {
     // The slot at a place of the table, if it is one of the variable `x`.
     fn slot(&self, at: Option<u16>, x: usize) -> Option<&Slot<N>>
-        ensures { Standing (elems self.now.slots) (λ slot. slot.variable ≡ x) (option_copied result) }
+        ensures { Standing self.now.slots.now (λ slot. slot.variable ≡ x) (option_copied result) }
     {
-        let slot = self.slots.as_slice().get(at? as usize)?;
+        let slot = self.slots.get(at? as usize)?;
         if slot.variable as usize == x {
             Some(slot)
         } else {
@@ -100,14 +99,14 @@ impl<const N: usize, const K: usize> Table<'_, N, K> {
     }
 
     // Marks the labels that each literal with the variable `x` has a candidate for.
-    fn shared(&self, x: usize, sets: &[BitSet<4>]) -> BitSet<N>
+    fn shared(&self, x: usize, sets: &[BitSet<4>]) -> BitSet<W>
         requires { length self.now.literals.starts.now ≤ length sets.now }
-        ensures { Shared (elems self.now.slots) (length self.now.literals.starts.now) (length self.now.targets.starts.now) sets.now x result.words }
+        ensures { Shared self.now.slots.now (length self.now.literals.starts.now) (length self.now.targets.starts.now) sets.now x result.words }
     {
         let n = self.targets.len();
-        let mut marks = BitSet::<N>::full();
+        let mut marks = BitSet::<W>::full();
         let mut at = self.last.get(x).copied().flatten();
-        for _ in 0..K {
+        for _ in 0..self.slots.len() {
             let Some(slot) = self.slot(at, x) else {
                 break;
             };
@@ -119,20 +118,20 @@ impl<const N: usize, const K: usize> Table<'_, N, K> {
 
     // Strikes out the candidates that give the variable `x` a label that is not marked. The variables of literals that lose
     // a candidate come into the queue; where a literal has lost its last, nothing more need be looked at.
-    fn strike(&self, x: usize, marks: &BitSet<N>, sets: &mut [BitSet<4>], queue: &mut BitSet<N>)
+    fn strike(&self, x: usize, marks: &BitSet<W>, sets: &mut [BitSet<4>], queue: &mut BitSet<W>)
         requires rows { length self.now.literals.starts.now ≤ length sets.old }
-        requires shared { Shared (elems self.now.slots) (length self.now.literals.starts.now) (length self.now.targets.starts.now) sets.old x marks.now.words }
-        ensures { Pruned (elems self.now.slots) (length self.now.literals.starts.now) (length self.now.targets.starts.now) sets.old sets.new }
+        requires shared { Shared self.now.slots.now (length self.now.literals.starts.now) (length self.now.targets.starts.now) sets.old x marks.now.words }
+        ensures { Pruned self.now.slots.now (length self.now.literals.starts.now) (length self.now.targets.starts.now) sets.old sets.new }
     {
         let n = self.targets.len();
         let mut at = self.last.get(x).copied().flatten();
-        for _ in 0..K {
+        for _ in 0..self.slots.len() {
             let Some(slot) = self.slot(at, x) else {
                 break;
             };
             if sift(&mut sets[slot.literal as usize], &slot.labels[..n], marks) {
                 if sets[slot.literal as usize].is_empty() {
-                    *queue = BitSet::<N>::new();
+                    *queue = BitSet::<W>::new();
                     return;
                 }
                 self.enqueue(slot.literal as usize, queue);
@@ -142,24 +141,24 @@ impl<const N: usize, const K: usize> Table<'_, N, K> {
     }
 
     // Puts the variables of literal `i` into the queue.
-    pub fn enqueue(&self, i: usize, queue: &mut BitSet<N>)
+    pub fn enqueue(&self, i: usize, queue: &mut BitSet<W>)
         ensures { (l : ℕ) → bit_at queue.old.words l ≡ 1 → bit_at queue.new.words l ≡ 1 }
     {
         let first = self.first.get(i).copied().unwrap_or(0);
-        for slot in self.slots.as_slice().iter().skip(first) {
+        for slot in self.slots.iter().skip(first) {
             if slot.literal as usize != i {
                 break;
             }
-            if (slot.variable as usize) < 64 * N {
+            if (slot.variable as usize) < 64 * W {
                 queue.include(slot.variable as usize);
             }
         }
     }
 
     // Strikes out what literals with the variable `x` disagree on; where it stands in one alone, nothing.
-    fn revise(&self, x: usize, sets: &mut [BitSet<4>], queue: &mut BitSet<N>)
+    fn revise(&self, x: usize, sets: &mut [BitSet<4>], queue: &mut BitSet<W>)
         requires { length self.now.literals.starts.now ≤ length sets.old }
-        ensures { Pruned (elems self.now.slots) (length self.now.literals.starts.now) (length self.now.targets.starts.now) sets.old sets.new }
+        ensures { Pruned self.now.slots.now (length self.now.literals.starts.now) (length self.now.targets.starts.now) sets.old sets.new }
     {
         let Some(last) = self.slot(self.last.get(x).copied().flatten(), x) else {
             return;
@@ -169,21 +168,24 @@ impl<const N: usize, const K: usize> Table<'_, N, K> {
         }
         let marks = self.shared(x, sets);
         self.strike(x, &marks, sets, queue);
-        if x < 64 * N {
+        if x < 64 * W {
             queue.exclude(x);
         }
     }
 
     // Strikes out candidates until no two literals disagree, beginning at the variables in the queue.
-    pub fn prune(&self, sets: &mut [BitSet<4>], mut queue: BitSet<N>)
+    pub fn prune(&self, sets: &mut [BitSet<4>], mut queue: BitSet<W>)
         requires { length self.now.literals.starts.now ≤ length sets.old }
-        ensures { Pruned (elems self.now.slots) (length self.now.literals.starts.now) (length self.now.targets.starts.now) sets.old sets.new }
+        ensures { Pruned self.now.slots.now (length self.now.literals.starts.now) (length self.now.targets.starts.now) sets.old sets.new }
     {
+        // Round and round: so what is struck out at one variable is felt at the next in the same round.
+        let mut next = 0;
         for _ in 0..ROUNDS {
-            let Some(x) = queue.pop() else {
+            let Some(x) = queue.pop_from(next) else {
                 return;
             };
             self.revise(x, sets, &mut queue);
+            next = x + 1;
         }
     }
 }

@@ -1,8 +1,7 @@
 // The search: takes the literal with the fewest candidates, tries each, prunes, and goes on.
-ghost use Rattle.std.specs.Prelude.{◌≡◌, ℕ, ◌<◌, ◌≤◌, true, false, List, None, length, Decides, IfSome};
-ghost use Rattle.bounded.specs.Elems.{elems};
+ghost use Rattle.std.specs.Prelude.{◌≡◌, ℕ, ◌*◌, ◌<◌, ◌≤◌, true, false, List, None, length, Decides, IfSome};
 ghost use Rattle.term.specs.Matched.{Below};
-ghost use Rattle.subsume.specs.Choices.{left, Settled, Narrowed, Spent, Taken, Chosen, Picked, Made, Clear, Avoids, pick, picked, undone};
+ghost use Rattle.subsume.specs.Choices.{left, Settled, Narrowed, Spent, Taken, Chosen, Uses, Turn, Picked, Made, Clear, Avoids, pick, picked, undone};
 ghost use Rattle.subsume.specs.Solving.{Works, Solved, Hopeful, Spared};
 
 use super::bits::BitSet;
@@ -10,15 +9,15 @@ use super::check::check;
 use super::state::State;
 use super::table::Table;
 
-// Leaves, of the first `n` targets, only `j`.
-fn narrow(left: &mut BitSet<4>, j: usize, n: usize)
-    requires { n ≤ 256 }
-    ensures { Narrowed left.old.words left.new.words j n }
+// Leaves only the target `j`, if it was left.
+fn narrow(left: &mut BitSet<4>, j: usize)
+    requires { j < 256 }
+    ensures { Narrowed left.old.words left.new.words j }
 {
-    for k in 0..n {
-        if k != j {
-            left.exclude(k);
-        }
+    let kept = left.test(j);
+    *left = BitSet::<4>::new();
+    if kept {
+        left.include(j);
     }
 }
 
@@ -29,7 +28,19 @@ fn settled(left: &BitSet<4>, n: usize) -> Option<usize>
     left.only().filter(|j| *j < n)
 }
 
-impl<const N: usize, const K: usize> Table<'_, N, K> {
+// The target that has the turn `k` of 2 * n: those of the first `n` that are in the set come first, and then the others.
+fn turn(first: &BitSet<4>, n: usize, k: usize) -> Option<usize>
+    requires { (n ≤ 256) × (k < 2 * n) }
+    ensures { Turn first.now.words n k result }
+{
+    if k < n {
+        first.test(k).then_some(k)
+    } else {
+        (!first.test(k - n)).then_some(k - n)
+    }
+}
+
+impl<const N: usize, const W: usize> Table<'_, N, W> {
     // Where the search begins: pruned from every literal on, and no choice is made.
     pub fn start(&self) -> State<N>
         ensures picked { Picked result.sets (length self.now.literals.starts.now) (length self.now.targets.starts.now) result.picks }
@@ -37,7 +48,7 @@ impl<const N: usize, const K: usize> Table<'_, N, K> {
         ensures none { (i : ℕ) → pick result.picks i ≡ None }
     {
         let mut sets = self.candidates;
-        let mut queue = BitSet::<N>::new();
+        let mut queue = BitSet::<W>::new();
         for i in 0..self.literals.len() {
             self.enqueue(i, &mut queue);
         }
@@ -85,6 +96,20 @@ impl<const N: usize, const K: usize> Table<'_, N, K> {
             .map(|(i, _)| i)
     }
 
+    // The targets that are chosen already.
+    fn chosen(&self, state: &State<N>) -> BitSet<4>
+        requires { Picked state.now.sets (length self.now.literals.starts.now) (length self.now.targets.starts.now) state.now.picks }
+        ensures { Uses state.now.picks (length self.now.literals.starts.now) result.words }
+    {
+        let mut chosen = BitSet::<4>::new();
+        for i in 0..self.literals.len() {
+            if let Some(j) = state.picks[i] {
+                chosen.include(j as usize);
+            }
+        }
+        chosen
+    }
+
     // Whether some choice works. Where it says no, none works whose targets are left.
     pub fn solvable<const V: usize>(&self, state: State<N>) -> bool
         requires variables { Below V self.now.literals.nodes.now × (V ≤ 65536) }
@@ -113,7 +138,13 @@ impl<const N: usize, const K: usize> Table<'_, N, K> {
             }
             return None;
         };
-        for j in 0..self.targets.len() {
+        // Targets that are chosen already come first: so the literals are turned into few.
+        let chosen = self.chosen(&state);
+        let n = self.targets.len();
+        for k in 0..2 * n {
+            let Some(j) = turn(&chosen, n, k) else {
+                continue;
+            };
             if state.sets[i].test(j) {
                 if let Some(picks) = self.search::<V>(self.take(&state, i, j)) {
                     return Some(picks);
@@ -127,14 +158,14 @@ impl<const N: usize, const K: usize> Table<'_, N, K> {
     pub fn take(&self, state: &State<N>, i: usize, j: usize) -> State<N>
         requires literal { i < length self.now.literals.starts.now }
         requires target { j < length self.now.targets.starts.now }
-        ensures taken { Taken (elems self.now.slots) (length self.now.literals.starts.now) (length self.now.targets.starts.now) state.now.sets i j result.sets }
+        ensures taken { Taken self.now.slots.now (length self.now.literals.starts.now) (length self.now.targets.starts.now) state.now.sets i j result.sets }
         ensures picked { Picked state.now.sets (length self.now.literals.starts.now) (length self.now.targets.starts.now) state.now.picks → Picked result.sets (length self.now.literals.starts.now) (length self.now.targets.starts.now) result.picks }
         ensures fewer { pick state.now.picks i ≡ None → undone result.picks < undone state.now.picks }
         ensures clear { (gone : List ℕ) → left state.now.sets i j ≡ 1 → Clear gone state.now.sets (length self.now.literals.starts.now) (length self.now.targets.starts.now) state.now.picks → Clear gone result.sets (length self.now.literals.starts.now) (length self.now.targets.starts.now) result.picks }
     {
         let mut sets = state.sets;
-        narrow(&mut sets[i], j, self.targets.len());
-        let mut queue = BitSet::<N>::new();
+        narrow(&mut sets[i], j);
+        let mut queue = BitSet::<W>::new();
         self.enqueue(i, &mut queue);
         self.prune(&mut sets, queue);
         let mut picks = state.picks;

@@ -14,12 +14,15 @@ use joining::raw_clause;
 use reduction::{renumbered_clause, tidied};
 use subsume::View;
 
-// How many literals a record may have, how many slots help the search, and how many variables a record may have.
+// How many literals a record may have, how many slots help the search, how many variables a record may have, and how many
+// words of 64 bits a set of them has.
 const LITERALS: usize = 16;
 
 const SLOTS: usize = 128;
 
 const VARIABLES: usize = 256;
+
+const WORDS: usize = 4;
 
 // The refusal of a join that is beyond the limit.
 const TOO_LARGE: u8 = 11;
@@ -32,7 +35,7 @@ impl Kind for Record {
     // Whether some substitution turns each literal of this rule into a literal of the mount.
     fn covers(&self, mount: &Record) -> bool {
         self.view()
-            .covers::<LITERALS, SLOTS, VARIABLES>(mount.view())
+            .covers::<LITERALS, SLOTS, VARIABLES, WORDS>(mount.view())
     }
 
     fn tidy(&mut self)

@@ -8,7 +8,7 @@ use Rattle.reduction.proofs.tidying.pass.Goals as goal
 
 pub returns-clause-passed : goal.returns-clause-passed
 returns-clause-passed c =
-    let a = c.args.clause in
+    let a = c.args.table.now.targets in
     let C = literals_at a.nodes.now a.starts.now in
     let d = c.loop-i.decided in
     let p = c.loop-i.invariant.standing.progress in

@@ -35,7 +35,8 @@ returns-in-Whole c =
     let a = c.args.clause in
     let C = literals_at a.nodes.now a.starts.now in
     let d = c.pass.new.decided in
-    (ended C d.gone.words (kept a.nodes.now d) c.in-Whole.ensures.passed, c.in-Whole.ensures.inside)
+    let same = c.link-table.ensures.1 ∙ c.new-words.ensures in
+    (ended C d.gone.words (kept a.nodes.now d) (rw same at c.in-Whole.ensures.passed), rw same at c.in-Whole.ensures.inside)
 
 pub loop-next-preserved : goal.loop-next-preserved
 loop-next-preserved c =
@@ -43,12 +44,13 @@ loop-next-preserved c =
     let N = a.nodes.now in
     let C = literals_at N a.starts.now in
     let d = c.pass.new.decided in
-    let passed = c.in-Shrunk.ensures.passed in
+    let same = c.link-table.ensures.1 ∙ c.new-words.ensures in
+    let passed = rw (same, c.link-table.ensures.0) at c.in-Shrunk.ensures.passed in
     let mapped = c.targets.result.1.words in
     let J = literals_at N (elems c.targets.result.0) in
     let count : c.len.result ≡ length (literals_at N c.as_slice.result.now) = c.len.ensures.value ∙ sym (length-map c.as_slice.result.now (word_at N) ∙ ap length c.as_slice.ensures.value) in
     record {
-      inside = c.in-Shrunk.ensures.inside;
+      inside = rw same at c.in-Shrunk.ensures.inside;
       begun = c.targets.ensures.inside;
       standing = record {
         progress = passed.2;

@@ -4,14 +4,14 @@ use Rattle.std.proofs.lemmas.List.Elements.{All-push}
 use Rattle.bounded.specs.Elems.{elems}
 use Rattle.clauses.specs.Clauses.{literals_at}
 use Rattle.subsume.specs.Choices.{picked}
-use Rattle.subsume.proofs.Avoiding.{absent}
+use Rattle.subsume.proofs.Sets.{absent}
 use Rattle.reduction.specs.Progress.{Progress, Image}
 use Rattle.reduction.proofs.Turning.{free-progress, free-stays, spare-progress, spare-next, needed-more, needed-image, needed-full}
 use Rattle.reduction.proofs.tidying.Decided.turn.Goals as goal
 
 pub returns-then-not-test-clause-turned : goal.returns-then-not-test-clause-turned
 returns-then-not-test-clause-turned c =
-    let a = c.args.clause in
+    let a = c.args.table.now.targets in
     let t = c.args.table.now in
     let I = literals_at t.literals.nodes.now t.literals.starts.now in
     let s = c.requires.standing in
@@ -24,13 +24,13 @@ returns-then-not-test-clause-turned c =
 
 pub returns-in-Some-clause-turned : goal.returns-in-Some-clause-turned
 returns-in-Some-clause-turned c =
-    let a = c.args.clause in
+    let a = c.args.table.now.targets in
     let t = c.args.table.now in
     let I = literals_at t.literals.nodes.now t.literals.starts.now in
     let s = c.requires.standing in
     let d = c.args.self.now in
     let choice = picked c.in-Some.picks in
-    let chosen = rw c.requires.targets at c.in-Some.ensures in (
+    let chosen = c.in-Some.ensures in (
       spare-progress a.nodes.now a.starts.now (elems d.kept) c.args.i c.requires.literal d.gone.words c.args.mapped.now.words I s.progress s.image c.include.new.self.words c.include.ensures.here c.include.ensures.others choice chosen,
       spare-next a.nodes.now a.starts.now (elems d.kept) c.args.i c.requires.literal d.gone.words c.args.mapped.now.words I s.progress s.image c.include.new.self.words c.include.ensures.here c.include.ensures.others choice chosen,
       λ k h. (chosen.1 k h).0,
@@ -38,18 +38,18 @@ returns-in-Some-clause-turned c =
 
 pub returns-in-Ok-clause-inside : goal.returns-in-Ok-clause-inside
 returns-in-Ok-clause-inside c =
-    let a = c.args.clause in
+    let a = c.args.table.now.targets in
     let d = c.args.self.now in
     rw c.in-Ok.ensures.1 (All-push (λ s. s < length a.nodes.now) (elems d.kept) (get_or a.starts.now c.args.i 0) c.requires.inside (a.inside c.args.i c.requires.literal))
 
 pub returns-in-Ok-clause-turned : goal.returns-in-Ok-clause-turned
 returns-in-Ok-clause-turned c =
-    let a = c.args.clause in
+    let a = c.args.table.now.targets in
     let t = c.args.table.now in
     let I = literals_at t.literals.nodes.now t.literals.starts.now in
     let s = c.requires.standing in
     let d = c.args.self.now in
-    let none = rw c.requires.targets at c.in_default.ensures in
+    let none = c.in_default.ensures in
     let C = literals_at a.nodes.now a.starts.now in
     let e = sym c.in-Ok.ensures.1 in
     record {
@@ -59,11 +59,11 @@ returns-in-Ok-clause-turned c =
 
 pub returns-in-Err-clause-turned : goal.returns-in-Err-clause-turned
 returns-in-Err-clause-turned c =
-    let a = c.args.clause in
+    let a = c.args.table.now.targets in
     let t = c.args.table.now in
     let I = literals_at t.literals.nodes.now t.literals.starts.now in
     let s = c.requires.standing in
     let d = c.args.self.now in
-    let none = rw c.requires.targets at c.in_default.ensures in
+    let none = c.in_default.ensures in
     needed-full a.nodes.now a.starts.now (elems d.kept) c.args.i c.requires.literal d.gone.words c.args.mapped.now.words I s.progress s.image c.include.new.self.words c.include.ensures.here c.include.ensures.others c.exclude.new.self.words c.exclude.ensures.here c.exclude.ensures.others none
     c.in-Err.ensures.0

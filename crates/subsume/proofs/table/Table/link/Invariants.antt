@@ -1,11 +1,13 @@
 use Rattle.std.proofs.Common.{◌≡◌, length}
-use Rattle.subsume.specs.Solving.{Open}
+use Rattle.bounded.specs.Elems.{elems}
+use Rattle.subsume.specs.Solving.{Open, Linked}
 use Rattle.subsume.proofs.table.Table.link.Given as goal
 
 abbrev pub invariant-loop-i : goal.invariant-loop-i
-invariant-loop-i g l = record {
-  literals : l.table.literals ≡ l.literals;
-  targets : l.table.targets ≡ l.targets;
-  rows : length l.candidates ≡ g.row.N;
-  opened : Open l.literals.nodes.now l.literals.starts.now l.targets.nodes.now l.targets.starts.now l.candidates (length l.literals.starts.now);
-}
+invariant-loop-i g l =
+    let t = l.targets.view in
+    record {
+      linked : Linked l.literals.nodes.now l.literals.starts.now t.nodes.now t.starts.now (elems l.slots.rows);
+      rows : length l.candidates ≡ g.row.N;
+      opened : Open l.literals.nodes.now l.literals.starts.now t.nodes.now t.starts.now l.candidates (length l.literals.starts.now);
+    }

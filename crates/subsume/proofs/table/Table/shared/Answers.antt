@@ -1,5 +1,4 @@
 use Rattle.std.proofs.Common.{◌<◌, length, sym, ap, ◌∙◌, subst, arith}
-use Rattle.bounded.specs.Elems.{elems}
 use Rattle.subsume.specs.declared.bits.BitSet.{BitSet}
 use Rattle.subsume.specs.declared.slot.Slot.{Slot}
 use Rattle.subsume.proofs.Pruning.{row-read, marked-first, shared-more}
@@ -10,7 +9,7 @@ loop-preserved g c =
     let t = c.args.self.now in
     let m = length t.literals.starts.now in
     let n = length t.targets.starts.now in
-    let slots = elems t.slots in
+    let slots = t.slots.now in
     let sets = c.args.sets.now in
     let slot = c.in-Some.slot.now in
     let s = c.in-Some.ensures in

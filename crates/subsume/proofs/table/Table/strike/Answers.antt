@@ -1,5 +1,4 @@
 use Rattle.std.proofs.Common.{◌<◌, length, set, subst, arith}
-use Rattle.bounded.specs.Elems.{elems}
 use Rattle.subsume.specs.declared.slot.Slot.{Slot}
 use Rattle.subsume.specs.Choices.{Pruned}
 use Rattle.subsume.proofs.Pruning.{row-read, sifted-first, sift-prunes}
@@ -7,12 +6,12 @@ use Rattle.subsume.proofs.table.Table.strike.Goals as goal
 use Rattle.subsume.proofs.table.Table.strike.Goals.{After-sift}
 use Rattle.subsume.proofs.table.Table.strike.Given.{Over}
 
-sifted : (g : Over) (c : After-sift g) → Pruned (elems c.args.self.now.slots) (length c.args.self.now.literals.starts.now) (length c.args.self.now.targets.starts.now) c.args.sets.now (set c.loop.sets c.in-Some.slot.now.literal c.sift.new.left)
+sifted : (g : Over) (c : After-sift g) → Pruned c.args.self.now.slots.now (length c.args.self.now.literals.starts.now) (length c.args.self.now.targets.starts.now) c.args.sets.now (set c.loop.sets c.in-Some.slot.now.literal c.sift.new.left)
 sifted g c =
     let t = c.args.self.now in
     let m = length t.literals.starts.now in
     let n = length t.targets.starts.now in
-    let slots = elems t.slots in
+    let slots = t.slots.now in
     let slot = c.in-Some.slot.now in
     let s = c.in-Some.ensures in
     let own : slot.literal < m = subst (λ (z : Slot g.row.N). z.literal < m) s.2 (t.linked s.0 s.1).0 in
