@@ -54,13 +54,19 @@ fn large_animals_are_dangerous(rt: HostRuntime) -> Result<(), Fail> {
 #[test]
 fn an_ancestor_of_a_father(rt: HostRuntime) -> Result<(), Fail> {
     let kaija = "-a(g, r), -f(r, k), a(g, k)";
-    let rule = gathered(
-        &rt,
-        kaija,
-        &["-a(g, r), -f(r, v), a(g, v)", "-a(i, m), -f(m, n), a(i, n)"],
-    )?;
+    let viivi = "-a(g, r), -f(r, v), a(g, v)";
+    let karen = "-a(i, m), -f(m, n), a(i, n)";
+    let rule = gathered(&rt, kaija, &[viivi, karen])?;
     same(&rt, &rule, "-a(X, Z), -f(Z, Y), a(X, Y)")?;
-    covered(&rt, &[("-f(X, Z), -a(Z, Y), a(X, Y)", kaija, false)])
+    let printed = "-f(X, Z), -a(Z, Y), a(X, Y)";
+    covered(
+        &rt,
+        &[
+            (printed, kaija, false),
+            (printed, viivi, false),
+            (printed, karen, false),
+        ],
+    )
 }
 
 // The printed rules are those of a program that drops more than is idle, to save time: they are wider.

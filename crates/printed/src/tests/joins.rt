@@ -1,5 +1,7 @@
 // Joins of two clauses.
-use super::notation::joined;
+use super::notation::{clause, joined};
+use joining::raw_clause;
+use std::process::Abort;
 use std::test::Fail;
 
 #[test]
@@ -55,5 +57,37 @@ fn tables_are_joined(rt: HostRuntime) -> Result<(), Fail> {
                 "-f(X, Y), a(X, Y)",
             ),
         ],
+    )
+}
+
+// Two records, and their join before it is tidied.
+fn raw(rt: &impl Abort, first: &str, second: &str, join: &str) -> Result<(), Fail> {
+    let left = clause(first)?;
+    let right = clause(second)?;
+    let wanted = clause(join)?;
+    let joined = raw_clause(left.view(), right.view());
+    assert_eq!(rt; joined.view().nodes, wanted.nodes(), "{first} and {second}");
+    Ok(())
+}
+
+#[test]
+fn raw_joins(rt: HostRuntime) -> Result<(), Fail> {
+    raw(
+        &rt,
+        "-o(1, x, a), -o(2, o, a), w(a)",
+        "-o(1, x, b), -o(2, x, b), w(b)",
+        "-o(1, x, P), -o(N, x, P), -o(M, X, P), -o(2, X, P), w(P)",
+    )?;
+    raw(
+        &rt,
+        "p(h), p(f(h))",
+        "p(f(h)), p(f(f(h)))",
+        "p(X), p(Y), p(f(h)), p(f(X))",
+    )?;
+    raw(
+        &rt,
+        "p(f(a), f(X)), p(f(X), g(a)), q(a)",
+        "p(f(b), X), p(Y, g(b))",
+        "p(f(A), B), p(C, D), p(f(E), F), p(G, g(A))",
     )
 }
