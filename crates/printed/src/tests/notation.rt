@@ -59,7 +59,8 @@ fn pack(text: &str, form: Form) -> Result<Bounded<u8, 160>, Fail> {
                 packed.push(0)?;
                 negative = false;
             }
-            _ => {}
+            b',' | b' ' => {}
+            _ => return Err(Fail::new("a letter without a meaning")),
         }
     }
     Ok(packed)
@@ -151,5 +152,17 @@ pub fn joined(rt: &impl Abort, cases: &[(&str, &str, &str)]) -> Result<(), Fail>
         record.join(&clause(second)?)?;
         same(rt, &record, join)?;
     }
+    Ok(())
+}
+
+#[test]
+fn what_is_written_is_packed(rt: HostRuntime) -> Result<(), Fail> {
+    let record = pack("p(f(a, Y), X, Y), -b, q(X)", Form::Clause)?;
+    assert_eq!(rt;
+        record.as_slice(),
+        [3, 30, 3, 11, 2, 1, 0, 0, 2, 0, 3, 0, 32, 1, 2].as_slice()
+    );
+    let place = pack("f(X, 1)", Form::Word)?;
+    assert_eq!(rt; place.as_slice(), [1, 11, 2, 0, 55, 0].as_slice());
     Ok(())
 }
