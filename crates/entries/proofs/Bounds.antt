@@ -1,7 +1,7 @@
--- The byte of a number's or a word's fault lies within the bytes read, or at their end.
-use Rattle.std.proofs.Common.{ℕ, zero, suc, ◌+◌, ◌/◌, ◌%◌, ◌<◌, ◌≤◌, Bool, true, false, cond, eqb, ltb, leb, List, [], ◌∷◌, length, drop, Ok, Err, Result, arith}
+-- The byte of a fault of a number, a word or an entry lies within the bytes read, or at their end.
+use Rattle.std.proofs.Common.{ℕ, zero, suc, ◌+◌, ◌-◌, ◌/◌, ◌%◌, ◌<◌, ◌≤◌, Bool, true, false, cond, eqb, ltb, leb, List, [], ◌∷◌, length, drop, Ok, Err, Result, arith}
 use Rattle.std.proofs.lemmas.List.{length-drop}
-use Rattle.std.proofs.lemmas.Bool.{cond_both}
+use Rattle.std.proofs.lemmas.Bool.{cond_both, leb-true}
 use Rattle.number.specs.declared.fault.NumberFault.{NumberFault}
 use Rattle.number.specs.Faults as numbers
 use Rattle.number.specs.Reads.{read_number, first, second, third}
@@ -11,6 +11,7 @@ use Rattle.word.specs.Faults as words
 use Rattle.word.specs.Reads.{node_at, read_words}
 use Rattle.word.specs.Then.{then}
 use Rattle.term.specs.declared.node.Node.{Node}
+use Rattle.entries.specs.Entries.{reach, entry_at}
 
 -- what an answer and then the next one give
 pub then-holds : {X Y E F : Type 0} (P : Result X E → Type 0) (Q : Result Y F → Type 0) (f : E → F) (r : Result X E) (next : X → Result Y F)
@@ -18,9 +19,9 @@ pub then-holds : {X Y E F : Type 0} (P : Result X E → Type 0) (Q : Result Y F 
 then-holds P Q f (Ok x) next p on off = on x p
 then-holds P Q f (Err e) next p on off = off e p
 
--- a number begins and ends by n, and so does the byte of its fault
+-- a number ends behind its place and by n, and so does the byte of its fault
 abbrev pub NumberBy : (at n : ℕ) → Result (ℕ × ℕ) NumberFault → Type 0
-NumberBy at n (Ok p) = (at ≤ n) × (p.1 ≤ n)
+NumberBy at n (Ok p) = (at < p.1) × (p.1 ≤ n)
 NumberBy at n (Err fault) = (numbers.told fault).1 ≤ n
 
 third-by : (low middle : ℕ) (bytes : List ℕ) (at end : ℕ) → at + 2 + length bytes ≤ end → NumberBy at end (third low middle bytes at end)
@@ -42,6 +43,20 @@ module _ (input : List ℕ) where
   pub number_by : (at : ℕ) → NumberBy at (length input) (read_number input at)
   unfolding read_number
   number_by at = first_by (drop at input) at (length input) (λ h. omega (arith, length-drop at input))
+
+  -- an entry stands behind its place and within the input, and so does the byte of its fault
+  abbrev pub EntryBy : (at : ℕ) → Result (ℕ × ℕ) NumberFault → Type 0
+  EntryBy at (Ok p) = (at < p.0) × (p.0 ≤ p.1) × (p.1 ≤ length input)
+  EntryBy at (Err fault) = (numbers.told fault).1 ≤ length input
+
+  reach-by : (at : ℕ) (r : Result (ℕ × ℕ) NumberFault) → NumberBy at (length input) r → EntryBy at (reach (length input) r)
+  reach-by at (Ok p) h =
+      cond_both (leb p.0 (length input - p.1)) _ _ (EntryBy at) (λ e. (h.0, omega arith, omega (arith, h.1, leb-true p.0 (length input - p.1) e))) (λ _. omega arith)
+  reach-by at (Err fault) h = h
+
+  pub entry_by : (at : ℕ) → EntryBy at (entry_at input at)
+  unfolding entry_at
+  entry_by at = reach-by at (read_number input at) (number_by at)
 
   -- what is read ends by the end of the input, and so does the byte of its fault
   abbrev EndsBy : {R : Type 0} → Result R WordFault → (next : R → ℕ) → Type 0
