@@ -22,7 +22,7 @@ use Rattle.record.specs.Faults.{literal_told, told}
 use Rattle.record.specs.Reads.{head_at, read_literal, in_literal, read_literals, read_record}
 
 -- the question
-number-few : (fault : NumberFault) → (numbers.told fault).0 ≤ 9
+pub number-few : (fault : NumberFault) → (numbers.told fault).0 ≤ 9
 number-few (Missing end) = omega arith
 number-few (TooLarge first) = omega arith
 number-few (Padded first) = omega arith

@@ -5,3 +5,4 @@ pub mod Takings
 pub mod Entered
 pub mod Lawfulness
 pub mod Oneness
+pub mod Underway

@@ -1,5 +1,5 @@
 -- An input has no two texts.
-use Rattle.std.proofs.Common.{◌≡◌, ℕ, zero, suc, ◌+◌, ◌≤◌, Bool, true, false, List, [], ◌∷◌, ◌++◌, ltb, leb, length, sum_by, Some, None, Ok, Err, Option, Result, sym, refl, ap, ◌∙◌, subst, ap₂, codes, arith}
+use Rattle.std.proofs.Common.{◌≡◌, ℕ, zero, suc, ◌+◌, ◌≤◌, Bool, true, false, List, [], ◌∷◌, ◌++◌, ltb, leb, length, sum_by, Some, None, Ok, Err, Option, Result, sym, refl, ap, ◌∙◌, subst, ap₂, codes, inl, inr, arith}
 use Rattle.std.specs.List.{between, flat_map}
 use Rattle.class.specs.Calls.{Begun, Admitted}
 use Rattle.class.specs.declared.classes.Class.{Class}
@@ -134,5 +134,5 @@ tells-one true input text other t u =
     u.3 ∙ ap₂ (λ (l : List Line) (r : List ℕ). flat_map line_text l ++ r) same.0 (rule-one u.1 t.1 same.1) ∙ sym t.3
 tells-one false input text other t u = u ∙ sym t
 
-pub one_text : (input : List ℕ) → OneText input
-one_text input text other t u = tells-one (leb (length input) 4096) input text other t u
+pub one-text : (input : List ℕ) → OneText input
+one-text input text other t u = tells-one (leb (length input) 4096) input text other t u

@@ -1,7 +1,39 @@
-use Rattle.session.proofs.Oneness.{one_text}
+use Rattle.std.proofs.Common.{length, refl, arith}
+use Rattle.std.proofs.lemmas.Bool.{lt-leb}
+use Rattle.session.proofs.Lengths.{too-long-short, fits}
 use Rattle.session.proofs.Lawfulness.{under-law}
-use Rattle.session.proofs.Entered.{entries-none, entries-more, entries-fault}
+use Rattle.session.proofs.Oneness.{one-text}
 use Rattle.session.proofs.whole.answer.Goals as goal
 
+pub returns-then-out-lt-BUFFER-clause-one : goal.returns-then-out-lt-BUFFER-clause-one
+returns-then-out-lt-BUFFER-clause-one c = one-text c.args.input.now
+
+pub returns-then-out-lt-BUFFER-clause-fits : goal.returns-then-out-lt-BUFFER-clause-fits
+returns-then-out-lt-BUFFER-clause-fits c = fits c.args.input.now
+
+pub returns-then-out-lt-BUFFER-clause-law : goal.returns-then-out-lt-BUFFER-clause-law
+returns-then-out-lt-BUFFER-clause-law c = under-law c.args.input.now
+
+pub put-requires : goal.put-requires
+put-requires c = omega (arith, too-long-short)
+
+pub returns-then-input-gt-INPUT-clause-answers : goal.returns-then-input-gt-INPUT-clause-answers
+returns-then-input-gt-INPUT-clause-answers c = (omega arith, (_, rw (lt-leb (length c.args.input.now) 4096 (omega arith)) refl, c.put.ensures))
+
+pub returns-then-input-gt-INPUT-clause-one : goal.returns-then-input-gt-INPUT-clause-one
+returns-then-input-gt-INPUT-clause-one c = one-text c.args.input.now
+
+pub returns-then-input-gt-INPUT-clause-fits : goal.returns-then-input-gt-INPUT-clause-fits
+returns-then-input-gt-INPUT-clause-fits c = fits c.args.input.now
+
+pub returns-then-input-gt-INPUT-clause-law : goal.returns-then-input-gt-INPUT-clause-law
+returns-then-input-gt-INPUT-clause-law c = under-law c.args.input.now
+
 pub returns-clause-one : goal.returns-clause-one
-returns-clause-one c = one_text c.args.input.now
+returns-clause-one c = one-text c.args.input.now
+
+pub returns-clause-fits : goal.returns-clause-fits
+returns-clause-fits c = fits c.args.input.now
+
+pub returns-clause-law : goal.returns-clause-law
+returns-clause-law c = under-law c.args.input.now
