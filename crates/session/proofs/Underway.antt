@@ -1,4 +1,4 @@
--- A session while it goes on: what was put so far, and how much may still come.
+-- The lines of a session while they are put: what was put so far, and how much may still come.
 use Rattle.std.proofs.Common.{◌≡◌, ℕ, ◌+◌, ◌-◌, ◌*◌, ◌<◌, ◌≤◌, List, [], ◌∷◌, ◌++◌, length, Some, None, Ok, Err, Option, sym, refl, ap, ◌∙◌, subst, append_assoc, append-nil, le-leb, arith}
 use Rattle.std.specs.List.{between, flat_map}
 use Rattle.std.proofs.lemmas.Grind.{flat_map-append}
@@ -12,7 +12,7 @@ use Rattle.number.specs.declared.fault.NumberFault.{NumberFault}
 use Rattle.record.specs.Reads.{read_record}
 use Rattle.record.specs.declared.clause.Record.{Record}
 use Rattle.session.specs.Answers.{Written}
-use Rattle.session.specs.Goings.{Goes}
+use Rattle.session.specs.Goings.{Goes, Lined}
 use Rattle.session.specs.Lines.{line_text, rule_line}
 use Rattle.session.specs.Sessions.{Met, in_hand, Turn, Entries, Held, Tells, Text}
 use Rattle.session.specs.declared.lines.Line.{Line}
@@ -31,15 +31,6 @@ pub record Underway (input : List ℕ) (at : ℕ) (class : Option (Class Record)
   pub goes : (more : List Line) (last : Option Met) → Entries turns input at met more last → Held input (lines ++ more) last
   pub wrote : Wrote (flat_map line_text lines) 0 before (Ok to) out
   pub room : to + 14 * (length input - at) ≤ 57344
-
--- after the last entry
-pub record Over (input : List ℕ) (class : Option (Class Record)) (before : List ℕ) (to : ℕ) (out : List ℕ) : Type 0 where
-  pub lines : List Line
-  pub met : Option Met
-  pub hand : in_hand met ≡ class
-  pub told : Held input lines met
-  pub wrote : Wrote (flat_map line_text lines) 0 before (Ok to) out
-  pub room : to ≤ 57344
 
 -- before the first entry
 pub underway : (input before : List ℕ) → length input ≤ 4096 → Underway input 0 None before 0 before
@@ -105,8 +96,8 @@ module _ (input : List ℕ) (at : ℕ) (class : Option (Class Record)) (before :
     pub fault-fits : 61440 ≤ length before → to + length (line_text (Bad question byte)) ≤ length out
     fault-fits room = omega (arith, U.room, fault-short, length-wrote (flat_map line_text U.lines) 0 to before out U.wrote)
 
-    pub over-fault : (next : ℕ) (put : List ℕ) → Wrote (line_text (Bad question byte)) to out (Ok next) put → Over input class before next put
-    over-fault next put w = record {
+    pub lined-fault : (next : ℕ) (put : List ℕ) → Wrote (line_text (Bad question byte)) to out (Ok next) put → Lined input class before next put
+    lined-fault next put w = record {
       lines = U.lines ++ Bad question byte ∷ [];
       met = U.met;
       hand = U.hand;
@@ -116,8 +107,8 @@ module _ (input : List ℕ) (at : ℕ) (class : Option (Class Record)) (before :
     }
 
   -- the end of the input
-  pub over : length input ≤ at → Over input class before to out
-  over h = record {
+  pub lined : length input ≤ at → Lined input class before to out
+  lined h = record {
     lines = U.lines;
     met = U.met;
     hand = U.hand;
@@ -126,16 +117,13 @@ module _ (input : List ℕ) (at : ℕ) (class : Option (Class Record)) (before :
     room = omega (arith, U.room);
   }
 
-pub over-same : (input : List ℕ) (class : Option (Class Record)) (before : List ℕ) (to : ℕ) (out : List ℕ) → Over input class before to out → (n : ℕ) (b : List ℕ) → n ≡ to → b ≡ out → Over input class before n b
-over-same input class before to out O n b e f = subst (λ (m : ℕ). Over input class before m b) (sym e) (subst (Over input class before to) (sym f) O)
-
-module _ (input : List ℕ) (class : Option (Class Record)) (before : List ℕ) (to : ℕ) (out : List ℕ) (O : Over input class before to out) where
+module _ (input : List ℕ) (class : Option (Class Record)) (before : List ℕ) (to : ℕ) (out : List ℕ) (L : Lined input class before to out) where
   pub rule-fits : 61440 ≤ length before → to + length (rule_line class) ≤ length out
-  rule-fits room = omega (arith, O.room, rule-short class, length-wrote (flat_map line_text O.lines) 0 to before out O.wrote)
+  rule-fits room = omega (arith, L.room, rule-short class, length-wrote (flat_map line_text L.lines) 0 to before out L.wrote)
 
   -- the rule after the lines
   pub written : length input ≤ 4096 → (end : ℕ) (after : List ℕ) → Wrote (rule_line class) to out (Ok end) after → Written input before end after
   written short end after w =
-      let text = flat_map line_text O.lines ++ rule_line class in
-      let last = ap (λ (c : Option (Class Record)). flat_map line_text O.lines ++ rule_line c) (sym O.hand) in
-      (text, rw (le-leb (length input) 4096 short) (O.lines, O.met, O.told, last), wrote-next (flat_map line_text O.lines) 0 to before out O.wrote (rule_line class) end after w)
+      let text = flat_map line_text L.lines ++ rule_line class in
+      let last = ap (λ (c : Option (Class Record)). flat_map line_text L.lines ++ rule_line c) (sym L.hand) in
+      (text, rw (le-leb (length input) 4096 short) (L.lines, L.met, L.told, last), wrote-next (flat_map line_text L.lines) 0 to before out L.wrote (rule_line class) end after w)

@@ -1,6 +1,7 @@
 // A session over a whole input.
 ghost use Rattle.std.specs.Prelude.{◌≤◌, length};
-ghost use Rattle.session.specs.Answers.{Answers, Written, OneText, Fits, UnderLaw};
+ghost use Rattle.session.specs.Answers.{Answers, OneText, Fits, UnderLaw};
+ghost use Rattle.session.specs.Goings.{Lined};
 
 use super::NoBuffer;
 use super::lines::Line;
@@ -33,14 +34,15 @@ pub fn answer(input: &[u8], out: &mut [u8]) -> Result<usize, NoBuffer>
         };
         return Ok(line.put(out, 0));
     }
-    Ok(tell(input, out))
+    let (gatherer, to) = put_lines(input, out);
+    Ok(gatherer.put_rule(out, to))
 }
 
-// The same for an input and a buffer within these bounds.
-fn tell(input: &[u8], out: &mut [u8]) -> usize
+// Puts a line for each entry at the start of `out`, and answers what is in hand at the end, and the place after the lines.
+fn put_lines(input: &[u8], out: &mut [u8]) -> (Gatherer, usize)
     requires short { length input.now ≤ 4096 }
     requires room { 61440 ≤ length out.old }
-    ensures { Written input.now out.old result out.new }
+    ensures { Lined input.now result.0.class out.old result.1 out.new }
 {
     let mut gatherer = Gatherer::new();
     let mut to = 0;
@@ -63,5 +65,5 @@ fn tell(input: &[u8], out: &mut [u8]) -> usize
             }
         }
     }
-    gatherer.put_rule(out, to)
+    (gatherer, to)
 }

@@ -3,6 +3,7 @@ use Rattle.std.proofs.lemmas.Bool.{lt-leb}
 use Rattle.session.proofs.Lengths.{too-long-short, fits}
 use Rattle.session.proofs.Lawfulness.{under-law}
 use Rattle.session.proofs.Oneness.{one-text}
+use Rattle.session.proofs.Underway.{rule-fits, written}
 use Rattle.session.proofs.whole.answer.Goals as goal
 
 pub returns-then-out-lt-BUFFER-clause-one : goal.returns-then-out-lt-BUFFER-clause-one
@@ -28,6 +29,16 @@ returns-then-input-gt-INPUT-clause-fits c = fits c.args.input.now
 
 pub returns-then-input-gt-INPUT-clause-law : goal.returns-then-input-gt-INPUT-clause-law
 returns-then-input-gt-INPUT-clause-law c = under-law c.args.input.now
+
+pub put_rule-requires : goal.put_rule-requires
+put_rule-requires c =
+    rule-fits c.args.input.now c.put_lines-to.result.0.class c.args.out.now c.put_lines-to.result.1 c.put_lines-to.new.out c.put_lines-to.ensures (omega arith)
+
+pub returns-clause-answers : goal.returns-clause-answers
+returns-clause-answers c = (
+  omega arith,
+  written c.args.input.now c.put_lines-to.result.0.class c.args.out.now c.put_lines-to.result.1 c.put_lines-to.new.out c.put_lines-to.ensures (omega arith) c.put_rule.result c.put_rule.new.out c.put_rule.ensures,
+)
 
 pub returns-clause-one : goal.returns-clause-one
 returns-clause-one c = one-text c.args.input.now

@@ -1,6 +1,6 @@
 use Rattle.std.proofs.Common.{ℕ, ◌-◌, length}
 use Rattle.session.proofs.Underway.{Underway}
-use Rattle.session.proofs.whole.tell.Given as goal
+use Rattle.session.proofs.whole.put_lines.Given as goal
 
 abbrev pub invariant-loop-at : goal.invariant-loop-at
 invariant-loop-at l = Underway l.input l.at l.gatherer.class l.initial.out l.to l.out
