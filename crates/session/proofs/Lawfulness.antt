@@ -32,7 +32,7 @@ follows-takes (Some l) x line (Some m) f t = (
   f.0,
   subst (λ (y : Record). Begun records y f.0) (sym t.2) f.1,
   subst (λ (calls : List (Call Record)). Run records (gathers f.0) calls (gathers m.class)) (sym t.3)
-  (run-longer records (gathers f.0) l.calls (gathers l.class) (admit x t.0) (gathers m.class) f.2 t.1),
+      (run-longer records (gathers f.0) l.calls (gathers l.class) (admit x t.0) (gathers m.class) f.2 t.1),
 )
 
 follows-turn : (start : ℕ) (r : Result Words RecordFault) (l : Option Met) (line : Line) (m : Option Met) → Follows l → Turn start r l line m → Follows m

@@ -79,7 +79,7 @@ takes-one (Some k) (Some l) (Some m) (Some n) x y i j s e t u =
     let one = outcome k.class x t.0 m.class t.1 in
     let other = outcome l.class y u.0 n.class u.1 in
     let moved = subst (λ (C : List Word). Outcome (clause l.class.rule) C (admitted t.0) (clause m.class.rule)) e
-      (subst (λ (C : List Word). Outcome C (clause x) (admitted t.0) (clause m.class.rule)) s one) in
+    (subst (λ (C : List Word). Outcome C (clause x) (admitted t.0) (clause m.class.rule)) s one) in
     let same = outcome-one (clause l.class.rule) (clause y) (admitted t.0) (admitted u.0) (clause m.class.rule) (clause n.class.rule) moved other in
     (t.4 ∙ same.0 ∙ sym u.4, same.1)
 

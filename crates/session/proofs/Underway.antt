@@ -80,8 +80,8 @@ module _ (input : List ℕ) (at : ℕ) (class : Option (Class Record)) (before :
           turns = U.turns - 1;
           left = omega (arith, inside.0, inside.1, U.left);
           goes = λ more last e.
-          subst (λ (l : List Line). Held input l last) (sym (append_assoc U.lines (line ∷ []) more))
-          (U.goes (line ∷ more) last (entries-more U.turns input at U.met h U.left start end is line g.0 g.2 more last e));
+              subst (λ (l : List Line). Held input l last) (sym (append_assoc U.lines (line ∷ []) more))
+              (U.goes (line ∷ more) last (entries-more U.turns input at U.met h U.left start end is line g.0 g.2 more last e));
           wrote = wrote-more U.lines line before to out U.wrote next put w;
           room = omega (arith, U.room, w.0, line-short, inside.0, inside.1);
         }

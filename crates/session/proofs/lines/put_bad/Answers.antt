@@ -17,16 +17,31 @@ put-to-requires-2 c =
 pub put_number-to-requires-2 : goal.put_number-to-requires-2
 put_number-to-requires-2 c =
     omega (
-      arith, c.requires, length-bad c.args.question c.args.byte,
-      c.put-to.ensures.0, c.put-to.auto.out, c.put_number-to.ensures.0, c.put_number-to.auto.out, c.put-to-2.ensures.0, c.put-to-2.auto.out,
+      arith,
+      c.requires,
+      length-bad c.args.question c.args.byte,
+      c.put-to.ensures.0,
+      c.put-to.auto.out,
+      c.put_number-to.ensures.0,
+      c.put_number-to.auto.out,
+      c.put-to-2.ensures.0,
+      c.put-to-2.auto.out,
     )
 
 pub put-requires : goal.put-requires
 put-requires c =
     omega (
-      arith, c.requires, length-bad c.args.question c.args.byte,
-      c.put-to.ensures.0, c.put-to.auto.out, c.put_number-to.ensures.0, c.put_number-to.auto.out, c.put-to-2.ensures.0, c.put-to-2.auto.out,
-      c.put_number-to-2.ensures.0, c.put_number-to-2.auto.out,
+      arith,
+      c.requires,
+      length-bad c.args.question c.args.byte,
+      c.put-to.ensures.0,
+      c.put-to.auto.out,
+      c.put_number-to.ensures.0,
+      c.put_number-to.auto.out,
+      c.put-to-2.ensures.0,
+      c.put-to-2.auto.out,
+      c.put_number-to-2.ensures.0,
+      c.put_number-to-2.auto.out,
     )
 
 pub returns : goal.returns

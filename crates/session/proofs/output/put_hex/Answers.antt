@@ -17,8 +17,12 @@ put-to-requires c =
     let i = c.loop-byte.byte-index in
     let w = c.loop-byte.invariant in
     omega (
-      arith, w.0, c.requires, c.loop-byte-test.true,
-      length-hex (take i bytes), length-take-le i bytes (omega (arith, c.loop-byte-test.true)),
+      arith,
+      w.0,
+      c.requires,
+      c.loop-byte-test.true,
+      length-hex (take i bytes),
+      length-take-le i bytes (omega (arith, c.loop-byte-test.true)),
       length-wrote (hex (take i bytes)) c.args.at c.loop-byte.to c.args.out.now c.loop-byte.out w,
     )
 
@@ -30,5 +34,5 @@ loop-byte-preserved c =
     let digits : c.hex_digit.result ∷ c.hex_digit-in-loop-byte.result ∷ [] ≡ hex_digit (b / 16) ∷ (hex_digit (b % 16) ∷ []) =
     ap₂ (λ (x y : ℕ). x ∷ (y ∷ [])) c.hex_digit.ensures c.hex_digit-in-loop-byte.ensures in
     let next = wrote-next (hex (take i bytes)) c.args.at c.loop-byte.to c.args.out.now c.loop-byte.out c.loop-byte.invariant _ c.put-to.result c.put-to.new.out
-      (subst (λ (l : List ℕ). Wrote l c.loop-byte.to c.loop-byte.out (Ok c.put-to.result) c.put-to.new.out) digits c.put-to.ensures) in
+    (subst (λ (l : List ℕ). Wrote l c.loop-byte.to c.loop-byte.out (Ok c.put-to.result) c.put-to.new.out) digits c.put-to.ensures) in
     subst (λ (l : List ℕ). Wrote l c.args.at c.args.out.now (Ok c.put-to.result) c.put-to.new.out) (sym (hex-more bytes i c.loop-byte-test.true)) next

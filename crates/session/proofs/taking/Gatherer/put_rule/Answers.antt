@@ -26,8 +26,15 @@ put-requires-in-Some c =
     let same = ap (λ (x : Record). 2 * length (clause_form (literals x))) (c.rule.ensures ∙ c.issue-issued.ensures.rule) in
     let long = length-hex (clause_form (literals c.rule.result.now)) in
     omega (
-      arith, c.requires, length-rule c.args.self.class c.in-Some.class c.in-Some.is,
-      c.put-to.ensures.0, c.put-to.auto.out, same, long, c.put_form-to.ensures.0, c.put_form-to.auto.out,
+      arith,
+      c.requires,
+      length-rule c.args.self.class c.in-Some.class c.in-Some.is,
+      c.put-to.ensures.0,
+      c.put-to.auto.out,
+      same,
+      long,
+      c.put_form-to.ensures.0,
+      c.put_form-to.auto.out,
     )
 
 pub returns-in-None : goal.returns-in-None
