@@ -1,5 +1,5 @@
 -- The byte of a record's fault lies within the bytes read, or at their end; and its question is one of the first nine.
-use Rattle.std.proofs.Common.{ℕ, zero, suc, ◌-◌, ◌<◌, ◌≤◌, Bool, true, false, cond, ltb, leb, List, [], ◌∷◌, length, Ok, Err, Result, arith}
+use Rattle.std.proofs.Common.{ℕ, zero, suc, ◌-◌, ◌≤◌, Bool, true, false, cond, ltb, leb, List, [], length, Ok, Err, Result, arith}
 use Rattle.std.proofs.lemmas.Bool.{cond_both}
 use Rattle.entries.proofs.Bounds.{NumberBy, number_by, then-holds, WordsBy, words-by}
 use Rattle.number.specs.declared.fault.NumberFault.{NumberFault}

@@ -1,12 +1,11 @@
 -- What a class met, it met under the law.
-use Rattle.std.proofs.Common.{◌≡◌, ℕ, zero, suc, Bool, true, false, List, [], ltb, length, Some, None, Ok, Err, Option, Result, sym, refl, subst}
+use Rattle.std.proofs.Common.{ℕ, zero, suc, Bool, true, false, List, ltb, length, Some, None, Ok, Err, Option, Result, sym, refl, subst}
 use Rattle.std.specs.List.{between}
-use Rattle.class.specs.Calls.{Begun, Admitted}
+use Rattle.class.specs.Calls.{Begun}
 use Rattle.class.specs.Runs.{Call, admit, gathers, Run}
 use Rattle.class.specs.declared.classes.Class.{Class}
 use Rattle.class.proofs.Longer.{run-longer}
 use Rattle.entries.specs.Entries.{entry_at}
-use Rattle.generaliser.specs.Law.{Lawful}
 use Rattle.generaliser.proofs.Whole.{whole}
 use Rattle.number.specs.declared.fault.NumberFault.{NumberFault}
 use Rattle.record.specs.Kind.{records}

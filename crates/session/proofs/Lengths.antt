@@ -53,6 +53,10 @@ length-no-rule o e = ap (λ (p : Option (Class Record)). length (rule_line p)) e
 bad-short : (question byte : ℕ) → question ≤ 9 → byte ≤ 4096 → length (bad_line question byte) ≤ 14
 bad-short question byte q b = omega (arith, length-bad question byte, length-decimal-le 1 question (omega arith) (omega arith) (omega arith), length-decimal-le 4 byte (omega arith) (omega arith) (omega arith))
 
+pub bad-fits : (question byte at room : ℕ) → question < 100 → byte < 10000 → at + 15 ≤ room → at + length (bad_line question byte) ≤ room
+bad-fits question byte at room q b h =
+    omega (arith, length-bad question byte, length-decimal-le 2 question (omega arith) (omega arith) (omega arith), length-decimal-le 4 byte (omega arith) (omega arith) (omega arith))
+
 pub short-fault : (fault : NumberFault) (question byte : ℕ) → question ≡ (numbers.told fault).0 → byte ≤ 4096 → length (line_text (Bad question byte)) ≤ 14
 short-fault fault question byte q b = bad-short question byte (omega (arith, q, number-few fault)) b
 
@@ -106,16 +110,12 @@ small-entries (suc turns) input at short =
     (λ h. small-onward input at (entry_at input at) (entry_by input at) short (ltb-true at (length input) h) (Entries turns input) (λ n. small-entries turns input n short))
     (small-ended input at)
 
-pub too-long-short : length (line_text (Bad 14 4096)) ≤ 61440
-too-long-short =
-    omega (arith, length-bad 14 4096, length-decimal-le 2 14 (omega arith) (omega arith) (omega arith), length-decimal-le 4 4096 (omega arith) (omega arith) (omega arith))
-
 small-text : (b : Bool) (input text : List ℕ) → leb (length input) 4096 ≡ b → Tells input text b → length text ≤ 61440
 small-text true input text e t =
     let short = leb-true (length input) 4096 e in
     let lines = flat_map line_text t.0 in
     rw t.3 (omega (arith, length-append lines (rule_line (in_hand t.1)), small-entries (length input) input 0 short None t.0 t.1 t.2, rule-short (in_hand t.1)))
-small-text false input text e t = rw t too-long-short
+small-text false input text e t = rw t (omega (arith, bad-fits 14 4096 0 61440 (omega arith) (omega arith) (omega arith)))
 
 pub fits : (input : List ℕ) → Fits input
 fits input text t = small-text (leb (length input) 4096) input text refl t

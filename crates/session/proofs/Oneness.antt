@@ -1,7 +1,7 @@
 -- An input has no two texts.
-use Rattle.std.proofs.Common.{◌≡◌, ℕ, zero, suc, ◌+◌, ◌≤◌, Bool, true, false, List, [], ◌∷◌, ◌++◌, ltb, leb, length, sum_by, Some, None, Ok, Err, Option, Result, sym, refl, ap, ◌∙◌, subst, ap₂, codes, inl, inr, arith}
+use Rattle.std.proofs.Common.{◌≡◌, ℕ, zero, suc, Bool, true, false, List, ◌∷◌, ◌++◌, ltb, leb, length, Some, None, Ok, Err, Option, Result, sym, refl, ap, ◌∙◌, subst, ap₂, codes, inl, inr, arith}
 use Rattle.std.specs.List.{between, flat_map}
-use Rattle.class.specs.Calls.{Begun, Admitted}
+use Rattle.class.specs.Calls.{Admitted}
 use Rattle.class.specs.declared.classes.Class.{Class}
 use Rattle.class.specs.declared.kind.Refusal.{Refusal}
 use Rattle.clauses.specs.Clauses.{Covers, each}

@@ -14,7 +14,7 @@ use Rattle.record.specs.declared.fault.RecordFault.{RecordFault}
 use Rattle.term.specs.Words.{Words}
 use Rattle.session.specs.Goings.{Goes}
 use Rattle.session.specs.Lines.{admitted}
-use Rattle.session.specs.Sessions.{Met, in_hand, Takes, Turn}
+use Rattle.session.specs.Sessions.{Takes, Turn}
 use Rattle.session.specs.declared.lines.Line.{Line}
 use Rattle.session.specs.declared.lines.Line.TheVariants.{Begun as BegunLine, Bad}
 

@@ -1,10 +1,10 @@
 -- The lines of a session while they are put: what was put so far, and how much may still come.
-use Rattle.std.proofs.Common.{◌≡◌, ℕ, ◌+◌, ◌-◌, ◌*◌, ◌<◌, ◌≤◌, List, [], ◌∷◌, ◌++◌, length, Some, None, Ok, Err, Option, sym, refl, ap, ◌∙◌, subst, append_assoc, append-nil, le-leb, arith}
+use Rattle.std.proofs.Common.{◌≡◌, ℕ, ◌+◌, ◌-◌, ◌*◌, ◌<◌, ◌≤◌, List, [], ◌∷◌, ◌++◌, length, None, Ok, Err, Option, sym, refl, ap, ◌∙◌, subst, append_assoc, append-nil, le-leb, arith}
 use Rattle.std.specs.List.{between, flat_map}
 use Rattle.std.proofs.lemmas.Grind.{flat_map-append}
 use Rattle.std.proofs.lemmas.List.Edits.{length-between}
 use Rattle.class.specs.declared.classes.Class.{Class}
-use Rattle.entries.specs.Entries.{entry_at, Inside}
+use Rattle.entries.specs.Entries.{entry_at}
 use Rattle.entries.proofs.Bounds.{EntryBy, entry_by}
 use Rattle.number.specs.Faults.{told}
 use Rattle.number.specs.Writes.{Wrote}
@@ -14,7 +14,7 @@ use Rattle.record.specs.declared.clause.Record.{Record}
 use Rattle.session.specs.Answers.{Written}
 use Rattle.session.specs.Goings.{Goes, Lined}
 use Rattle.session.specs.Lines.{line_text, rule_line}
-use Rattle.session.specs.Sessions.{Met, in_hand, Turn, Entries, Held, Tells, Text}
+use Rattle.session.specs.Sessions.{Met, in_hand, Turn, Entries, Gives}
 use Rattle.session.specs.declared.lines.Line.{Line}
 use Rattle.session.specs.declared.lines.Line.TheVariants.{Bad}
 use Rattle.session.proofs.Entered.{entries-none, entries-more, entries-fault}
@@ -28,7 +28,7 @@ pub record Underway (input : List ℕ) (at : ℕ) (class : Option (Class Record)
   pub hand : in_hand met ≡ class
   pub turns : ℕ
   pub left : length input - at ≤ turns
-  pub goes : (more : List Line) (last : Option Met) → Entries turns input at met more last → Held input (lines ++ more) last
+  pub goes : (more : List Line) (last : Option Met) → Entries turns input at met more last → Gives input (lines ++ more) last
   pub wrote : Wrote (flat_map line_text lines) 0 before (Ok to) out
   pub room : to + 14 * (length input - at) ≤ 57344
 
@@ -80,7 +80,7 @@ module _ (input : List ℕ) (at : ℕ) (class : Option (Class Record)) (before :
           turns = U.turns - 1;
           left = omega (arith, inside.0, inside.1, U.left);
           goes = λ more last e.
-              subst (λ (l : List Line). Held input l last) (sym (append_assoc U.lines (line ∷ []) more))
+              subst (λ (l : List Line). Gives input l last) (sym (append_assoc U.lines (line ∷ []) more))
               (U.goes (line ∷ more) last (entries-more U.turns input at U.met h U.left start end is line g.0 g.2 more last e));
           wrote = wrote-more U.lines line before to out U.wrote next put w;
           room = omega (arith, U.room, w.0, line-short, inside.0, inside.1);
@@ -112,7 +112,7 @@ module _ (input : List ℕ) (at : ℕ) (class : Option (Class Record)) (before :
     lines = U.lines;
     met = U.met;
     hand = U.hand;
-    told = subst (λ (l : List Line). Held input l U.met) (append-nil U.lines) (U.goes [] U.met (entries-none U.turns input at U.met h));
+    told = subst (λ (l : List Line). Gives input l U.met) (append-nil U.lines) (U.goes [] U.met (entries-none U.turns input at U.met h));
     wrote = U.wrote;
     room = omega (arith, U.room);
   }

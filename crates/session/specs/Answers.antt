@@ -3,7 +3,7 @@ use Rattle.std.specs.Prelude.{◌≡◌, ℕ, ◌<◌, ◌≤◌, List, length, 
 use Rattle.class.specs.Runs.{gathers}
 use Rattle.generaliser.specs.Law.{Lawful}
 use Rattle.number.specs.Writes.{Wrote}
-use Rattle.session.specs.Sessions.{Met, Held, Text}
+use Rattle.session.specs.Sessions.{Met, Gives, Text}
 use Rattle.session.specs.declared.lines.Line.{Line}
 use Rattle.session.specs.declared.refusal.NoBuffer.{NoBuffer}
 
@@ -31,4 +31,4 @@ Fits input = (text : List ℕ) → Text input text → length text ≤ 61440
 -- the class in hand at the end met its calls under the law: its answers are right, and its rule is tidy and least over the
 -- records taken, as small as can be, and settled by what they are
 abbrev pub UnderLaw : List ℕ → Type 0
-UnderLaw input = (lines : List Line) (m : Met) → Held input lines (Some m) → Lawful m.first m.calls (gathers m.class)
+UnderLaw input = (lines : List Line) (m : Met) → Gives input lines (Some m) → Lawful m.first m.calls (gathers m.class)

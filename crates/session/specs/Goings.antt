@@ -5,7 +5,7 @@ use Rattle.class.specs.declared.classes.Class.{Class}
 use Rattle.number.specs.Writes.{Wrote}
 use Rattle.record.specs.declared.clause.Record.{Record}
 use Rattle.session.specs.Lines.{line_text}
-use Rattle.session.specs.Sessions.{Met, in_hand, Held}
+use Rattle.session.specs.Sessions.{Met, in_hand, Gives}
 use Rattle.session.specs.declared.lines.Line.{Line}
 
 -- whatever the class in hand met before, it met after what the step says
@@ -17,6 +17,6 @@ pub record Lined (input : List ℕ) (class : Option (Class Record)) (before : Li
   pub lines : List Line
   pub met : Option Met
   pub hand : in_hand met ≡ class
-  pub told : Held input lines met
+  pub told : Gives input lines met
   pub wrote : Wrote (flat_map line_text lines) 0 before (Ok to) after
   pub room : to ≤ 57344

@@ -1,5 +1,5 @@
 -- A session: what the entries of an input lead to, and the text that tells it.
-use Rattle.std.specs.Prelude.{◌≡◌, ℕ, zero, suc, ◌+◌, ◌<◌, Bool, true, false, List, [], ◌∷◌, ◌++◌, length, Some, None, Ok, Err, Option, Result, nat_le, nat_lt}
+use Rattle.std.specs.Prelude.{◌≡◌, ℕ, zero, suc, ◌+◌, Bool, true, false, List, [], ◌∷◌, ◌++◌, length, Some, None, Ok, Err, Option, Result, nat_le, nat_lt}
 use Rattle.std.specs.List.{between, flat_map}
 use Rattle.class.specs.Calls.{Begun, Admitted}
 use Rattle.class.specs.Runs.{Call, admit}
@@ -68,13 +68,17 @@ Entries zero input at = Ended
 Entries (suc turns) input at = Either (nat_lt at (length input)) (Onward input (entry_at input at) (Entries turns input)) Ended
 
 -- the lines of an input, and what is in hand at its end
-abbrev pub Held : List ℕ → List Line → Option Met → Type 0
-Held input lines last = Entries (length input) input 0 None lines last
+abbrev pub Gives : List ℕ → List Line → Option Met → Type 0
+Gives input lines last = Entries (length input) input 0 None lines last
+
+-- 14, has the input at most 4,096 bytes? tells the first byte beyond them
+abbrev pub too_long : Line
+too_long = Bad 14 4096
 
 -- the text of an input: its lines and last the rule, or that it is too long
 abbrev pub Tells : List ℕ → List ℕ → (short : Bool) → Type 0
-Tells input text true = (lines : List Line) × (last : Option Met) × Held input lines last × (text ≡ flat_map line_text lines ++ rule_line (in_hand last))
-Tells input text false = text ≡ line_text (Bad 14 4096)
+Tells input text true = (lines : List Line) × (last : Option Met) × Gives input lines last × (text ≡ flat_map line_text lines ++ rule_line (in_hand last))
+Tells input text false = text ≡ line_text too_long
 
 abbrev pub Text : (input text : List ℕ) → Type 0
 Text input text = Tells input text (nat_le (length input) 4096)

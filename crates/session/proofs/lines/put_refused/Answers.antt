@@ -1,4 +1,4 @@
-use Rattle.std.proofs.Common.{decimal, codes, ◌++◌, arith}
+use Rattle.std.proofs.Common.{decimal, codes, arith}
 use Rattle.session.specs.Lines.{refused_line}
 use Rattle.session.proofs.Lengths.{length-refused}
 use Rattle.session.proofs.Writings.{wrote-next}

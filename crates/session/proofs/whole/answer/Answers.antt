@@ -1,6 +1,6 @@
 use Rattle.std.proofs.Common.{length, refl, arith}
 use Rattle.std.proofs.lemmas.Bool.{lt-leb}
-use Rattle.session.proofs.Lengths.{too-long-short, fits}
+use Rattle.session.proofs.Lengths.{bad-fits, fits}
 use Rattle.session.proofs.Lawfulness.{under-law}
 use Rattle.session.proofs.Oneness.{one-text}
 use Rattle.session.proofs.Underway.{rule-fits, written}
@@ -16,7 +16,7 @@ pub returns-then-out-lt-BUFFER-clause-law : goal.returns-then-out-lt-BUFFER-clau
 returns-then-out-lt-BUFFER-clause-law c = under-law c.args.input.now
 
 pub put-requires : goal.put-requires
-put-requires c = omega (arith, too-long-short)
+put-requires c = bad-fits _ _ _ _ (omega arith) (omega arith) (omega arith)
 
 pub returns-then-input-gt-INPUT-clause-answers : goal.returns-then-input-gt-INPUT-clause-answers
 returns-then-input-gt-INPUT-clause-answers c = (omega arith, (_, rw (lt-leb (length c.args.input.now) 4096 (omega arith)) refl, c.put.ensures))

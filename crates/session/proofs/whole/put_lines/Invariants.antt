@@ -1,4 +1,4 @@
-use Rattle.std.proofs.Common.{ℕ, ◌-◌, length}
+use Rattle.std.proofs.Common.{◌-◌, length}
 use Rattle.session.proofs.Underway.{Underway}
 use Rattle.session.proofs.whole.put_lines.Given as goal
 

@@ -1,4 +1,4 @@
-use Rattle.std.proofs.Common.{◌≡◌, ℕ, ◌*◌, List, length, codes, Some, None, Ok, Option, sym, ap, ◌∙◌, subst, arith}
+use Rattle.std.proofs.Common.{ℕ, ◌*◌, List, length, codes, Ok, Option, sym, ap, ◌∙◌, subst, arith}
 use Rattle.class.specs.declared.classes.Class.{Class}
 use Rattle.listing.specs.Reduced.{hex}
 use Rattle.number.specs.Writes.{Wrote}
