@@ -1,5 +1,5 @@
 -- The byte of a place word's fault lies within the bytes read, or at their end.
-use Rattle.std.proofs.Common.{ℕ, ◌<◌, ◌≤◌, ltb, List, [], length, Ok, Err, Result, arith}
+use Rattle.std.proofs.Common.{ℕ, ◌≤◌, ltb, List, [], length, Ok, Err, Result, arith}
 use Rattle.std.proofs.lemmas.Bool.{cond_both}
 use Rattle.entries.proofs.Bounds.{then-holds, WordsBy, words-by}
 use Rattle.word.specs.Reads.{read_words}
