@@ -1,0 +1,83 @@
+// The calls on two records, and the session.
+ghost use Rattle.std.specs.Prelude.{◌≡◌, []};
+ghost use Rattle.record.specs.Reads.{read_record};
+ghost use Rattle.record.specs.Records.{literals};
+ghost use Rattle.session.specs.Answers.{OneText, Fits, UnderLaw};
+ghost use Rattle.cehmoli.specs.Calls.{OfBoth, CoversAnswer, WitnessAnswer, Packs, JoinAnswer, SessionAnswer};
+
+use super::answers::Answer;
+use super::inputs::read_both;
+use class::Kind;
+use record::Record;
+use session::session;
+use witness::witness;
+
+// Takes the records of the entries of `input` into a class, and tells in `out` what happened and the rule.
+#[unsafe(no_mangle)]
+pub extern "C" fn cehmoli_session(input: &[u8], out: &mut [u8]) -> Answer
+    ensures answers { SessionAnswer input.now result out.old out.new }
+    ensures one { OneText input.now }
+    ensures fits { Fits input.now }
+    ensures law { UnderLaw input.now }
+{
+    match session(input, out) {
+        Ok(length) => Answer::answered(length),
+        Err(refusal) => Answer::refused(refusal.question()),
+    }
+}
+
+// Whether the rule covers the mount.
+#[unsafe(no_mangle)]
+pub extern "C" fn cehmoli_covers(rule: &[u8], mount: &[u8]) -> Answer
+    ensures { OfBoth (read_record rule.now) (read_record mount.now) result [] [] (λ xs ys. CoversAnswer xs ys result) }
+{
+    match read_both(rule, mount) {
+        Ok((rule, mount)) => {
+            if rule.covers(&mount) {
+                Answer::answered(1)
+            } else {
+                Answer::none()
+            }
+        }
+        Err(unread) => unread.answer(),
+    }
+}
+
+// Why the rule covers the mount: for each variable of the rule the node of the mount where it is met.
+#[unsafe(no_mangle)]
+pub extern "C" fn cehmoli_witness(rule: &[u8], mount: &[u8], list: &mut [u16]) -> Answer
+    ensures { OfBoth (read_record rule.now) (read_record mount.now) result list.old list.new (λ xs ys. WitnessAnswer xs ys result list.old list.new) }
+{
+    match read_both(rule, mount) {
+        Ok((rule, mount)) => match witness(&rule, &mount, list) {
+            Ok(Some(count)) => Answer::answered(count),
+            Ok(None) => Answer::none(),
+            Err(refusal) => Answer::refused(refusal.question()),
+        },
+        Err(unread) => unread.answer(),
+    }
+}
+
+// The join of two records, in its packed form at the start of `out`.
+#[unsafe(no_mangle)]
+pub extern "C" fn cehmoli_join(first: &[u8], second: &[u8], out: &mut [u8]) -> Answer
+    ensures { OfBoth (read_record first.now) (read_record second.now) result out.old out.new (λ xs ys. JoinAnswer xs ys result out.old out.new) }
+{
+    match read_both(first, second) {
+        Ok((first, second)) => put_join(first, &second, out),
+        Err(unread) => unread.answer(),
+    }
+}
+
+// The same of two records.
+fn put_join(mut first: Record, second: &Record, out: &mut [u8]) -> Answer
+    ensures { JoinAnswer (literals first) (literals second.now) result out.old out.new }
+{
+    if let Err(refusal) = first.join(second) {
+        return Answer::refused(refusal.number);
+    }
+    match first.write(out) {
+        Ok(length) => Answer::answered(length),
+        Err(refusal) => Answer::refused(refusal.question()),
+    }
+}
