@@ -16,7 +16,7 @@ $(LIBRARY): $(SOURCES)
 
 target/c/%: examples/c/%.c include/cehmoli.h $(LIBRARY)
 	mkdir -p target/c
-	$(CC) $(CFLAGS) -Iinclude $< $(LIBRARY) -o $@
+	$(CC) $(CFLAGS) -Iinclude $< $(LIBRARY) -pthread -o $@
 
 target/rust/release/planner: $(LIBRARY) $(wildcard examples/rust/*.* examples/rust/src/*)
 	cargo build --release --offline --manifest-path examples/rust/Cargo.toml --target-dir target/rust
