@@ -1,5 +1,5 @@
 -- What the calls answer, and what then stands in what was lent to them.
-use Rattle.std.specs.Prelude.{◌≡◌, ℕ, ◌<◌, List, All, take, Some, None, Ok, Err, Option, Result, ◌⊎◌, IfOk, IfSome}
+use Rattle.std.specs.Prelude.{◌≡◌, ℕ, ◌<◌, List, [], All, take, Some, None, Ok, Err, Option, Result, ◌⊎◌, IfOk, IfSome}
 use Rattle.class.specs.Kinds.{Joined}
 use Rattle.class.specs.declared.kind.Refusal.{Refusal}
 use Rattle.clauses.specs.Clauses.{Covers, each}
@@ -7,7 +7,7 @@ use Rattle.number.specs.Faults.{no_room}
 use Rattle.number.specs.Writes.{Wrote}
 use Rattle.number.specs.declared.fault.NoRoom.{NoRoom}
 use Rattle.record.specs.Kind.{records}
-use Rattle.record.specs.Reads.{clause_form}
+use Rattle.record.specs.Reads.{read_record, clause_form}
 use Rattle.record.specs.Records.{literals}
 use Rattle.record.specs.declared.clause.Record.{Record}
 use Rattle.record.specs.declared.fault.RecordFault.{RecordFault}
@@ -42,6 +42,9 @@ OfBoth (Err e) second answer before after Of = (answer ≡ first_unread e) × (a
 abbrev pub CoversAnswer : (rule mount : Words) → Answer → Type 0
 CoversAnswer rule mount answer = ((answer ≡ answered 1) × Covers (each rule) (each mount)) ⊎ ((answer ≡ none) × (Covers (each rule) (each mount) → ⊥))
 
+abbrev pub CoversCall : (rule mount : List ℕ) → Answer → Type 0
+CoversCall rule mount answer = OfBoth (read_record rule) (read_record mount) answer [] [] (λ xs ys. CoversAnswer xs ys answer)
+
 -- a witness: the count of variables, none, or a refusal
 abbrev pub witness_answer : Result (Option ℕ) TooFewEntries → Answer
 witness_answer (Ok (Some n)) = answered n
@@ -53,6 +56,10 @@ abbrev pub WitnessAnswer : (rule mount : Words) → Answer → (before after : L
 WitnessAnswer rule mount answer before after =
     (r : Result (Option ℕ) TooFewEntries)
     × Witnessed rule mount before r after × (answer ≡ witness_answer r) × IfOk r (λ a. IfSome a (λ n. All (λ q. q < sizes mount) (take n after)))
+
+abbrev pub WitnessCall : (rule mount before : List ℕ) → Answer → (after : List ℕ) → Type 0
+WitnessCall rule mount before answer after =
+    OfBoth (read_record rule) (read_record mount) answer before after (λ xs ys. WitnessAnswer xs ys answer before after)
 
 -- the packed form of a record is written, or refused
 abbrev pub write_answer : Result ℕ NoRoom → Answer
@@ -67,6 +74,14 @@ Packs (Err e) zs answer before after = (answer ≡ refused e.number) × (after �
 abbrev pub JoinAnswer : (xs ys : Words) → Answer → (before after : List ℕ) → Type 0
 JoinAnswer xs ys answer before after =
     (x : Record) × (y : Record) × (z : Record) × (r : Result (Unit {0}) Refusal) × (literals x ≡ xs) × (literals y ≡ ys) × Joined records x y r z × Packs r (literals z) answer before after
+
+abbrev pub JoinCall : (first second before : List ℕ) → Answer → (after : List ℕ) → Type 0
+JoinCall first second before answer after =
+    OfBoth (read_record first) (read_record second) answer before after (λ xs ys. JoinAnswer xs ys answer before after)
+
+-- a call is settled by its arguments: it has one answer, and leaves one thing in what was lent
+abbrev pub Settled : (Answer → (after : List ℕ) → Type 0) → Type 0
+Settled Call = (a b : Answer) (after other : List ℕ) → Call a after → Call b other → (a ≡ b) × (after ≡ other)
 
 -- a session: the length of the text, or a refusal
 abbrev pub session_answer : Result ℕ NoBuffer → Answer

@@ -1,9 +1,7 @@
 // The calls on two records, and the session.
-ghost use Rattle.std.specs.Prelude.{◌≡◌, []};
-ghost use Rattle.record.specs.Reads.{read_record};
 ghost use Rattle.record.specs.Records.{literals};
 ghost use Rattle.session.specs.Answers.{OneText, Fits, UnderLaw};
-ghost use Rattle.cehmoli.specs.Calls.{OfBoth, CoversAnswer, WitnessAnswer, Packs, JoinAnswer, SessionAnswer};
+ghost use Rattle.cehmoli.specs.Calls.{CoversCall, WitnessCall, JoinAnswer, JoinCall, SessionAnswer, Settled};
 
 use super::answers::Answer;
 use super::inputs::read_both;
@@ -29,7 +27,7 @@ pub extern "C" fn cehmoli_session(input: &[u8], out: &mut [u8]) -> Answer
 // Whether the rule covers the mount.
 #[unsafe(no_mangle)]
 pub extern "C" fn cehmoli_covers(rule: &[u8], mount: &[u8]) -> Answer
-    ensures { OfBoth (read_record rule.now) (read_record mount.now) result [] [] (λ xs ys. CoversAnswer xs ys result) }
+    ensures { CoversCall rule.now mount.now result }
 {
     match read_both(rule, mount) {
         Ok((rule, mount)) => {
@@ -44,9 +42,11 @@ pub extern "C" fn cehmoli_covers(rule: &[u8], mount: &[u8]) -> Answer
 }
 
 // Why the rule covers the mount: for each variable of the rule the node of the mount where it is met.
+#[tactic(auto, using(crate::proofs::Settling::witness_settled))]
 #[unsafe(no_mangle)]
 pub extern "C" fn cehmoli_witness(rule: &[u8], mount: &[u8], list: &mut [u16]) -> Answer
-    ensures { OfBoth (read_record rule.now) (read_record mount.now) result list.old list.new (λ xs ys. WitnessAnswer xs ys result list.old list.new) }
+    ensures answers { WitnessCall rule.now mount.now list.old result list.new }
+    ensures one { Settled (WitnessCall rule.now mount.now list.old) }
 {
     match read_both(rule, mount) {
         Ok((rule, mount)) => match witness(&rule, &mount, list) {
@@ -59,9 +59,11 @@ pub extern "C" fn cehmoli_witness(rule: &[u8], mount: &[u8], list: &mut [u16]) -
 }
 
 // The join of two records, in its packed form at the start of `out`.
+#[tactic(auto, using(crate::proofs::Settling::join_settled))]
 #[unsafe(no_mangle)]
 pub extern "C" fn cehmoli_join(first: &[u8], second: &[u8], out: &mut [u8]) -> Answer
-    ensures { OfBoth (read_record first.now) (read_record second.now) result out.old out.new (λ xs ys. JoinAnswer xs ys result out.old out.new) }
+    ensures answers { JoinCall first.now second.now out.old result out.new }
+    ensures one { Settled (JoinCall first.now second.now out.old) }
 {
     match read_both(first, second) {
         Ok((first, second)) => put_join(first, &second, out),
