@@ -1,6 +1,10 @@
 // The calls on two records, and the session.
+ghost use Rattle.std.specs.Prelude.{◌≤◌, length, ◌≢◌};
+ghost use Rattle.number.specs.Faults.{no_room};
 ghost use Rattle.record.specs.Records.{literals};
 ghost use Rattle.session.specs.Answers.{OneText, Fits, UnderLaw};
+ghost use Rattle.witness.specs.Witness.{too_few_entries};
+ghost use Rattle.cehmoli.specs.Answers.{refused};
 ghost use Rattle.cehmoli.specs.Calls.{CoversCall, WitnessCall, JoinAnswer, JoinCall, SessionAnswer, Settled};
 
 use super::answers::Answer;
@@ -47,6 +51,7 @@ pub extern "C" fn cehmoli_covers(rule: &[u8], mount: &[u8]) -> Answer
 pub extern "C" fn cehmoli_witness(rule: &[u8], mount: &[u8], list: &mut [u16]) -> Answer
     ensures answers { WitnessCall rule.now mount.now list.old result list.new }
     ensures one { Settled (WitnessCall rule.now mount.now list.old) }
+    ensures enough { 256 ≤ length list.old → result ≢ refused too_few_entries }
 {
     match read_both(rule, mount) {
         Ok((rule, mount)) => match witness(&rule, &mount, list) {
@@ -64,6 +69,7 @@ pub extern "C" fn cehmoli_witness(rule: &[u8], mount: &[u8], list: &mut [u16]) -
 pub extern "C" fn cehmoli_join(first: &[u8], second: &[u8], out: &mut [u8]) -> Answer
     ensures answers { JoinCall first.now second.now out.old result out.new }
     ensures one { Settled (JoinCall first.now second.now out.old) }
+    ensures enough { 1539 ≤ length out.old → result ≢ refused no_room }
 {
     match read_both(first, second) {
         Ok((first, second)) => put_join(first, &second, out),
@@ -73,7 +79,8 @@ pub extern "C" fn cehmoli_join(first: &[u8], second: &[u8], out: &mut [u8]) -> A
 
 // The same of two records.
 fn put_join(mut first: Record, second: &Record, out: &mut [u8]) -> Answer
-    ensures { JoinAnswer (literals first) (literals second.now) result out.old out.new }
+    ensures answers { JoinAnswer (literals first) (literals second.now) result out.old out.new }
+    ensures enough { 1539 ≤ length out.old → result ≢ refused no_room }
 {
     if let Err(refusal) = first.join(second) {
         return Answer::refused(refusal.number);
