@@ -21,9 +21,11 @@ target/c/%: examples/c/%.c include/cehmoli.h $(LIBRARY)
 target/rust/release/planner: $(LIBRARY) $(wildcard examples/rust/*.* examples/rust/src/*)
 	cargo build --release --offline --manifest-path examples/rust/Cargo.toml --target-dir target/rust
 
+# Both planners say the same.
 run: all
-	target/c/planner $(SPOILED) $(MOUNTS)
-	target/rust/release/planner $(SPOILED) $(MOUNTS)
+	target/c/planner $(SPOILED) $(MOUNTS) | tee target/c/said
+	target/rust/release/planner $(SPOILED) $(MOUNTS) | tee target/rust/said
+	cmp target/c/said target/rust/said
 
 # How much stack the calls take.
 stack: target/c/stack

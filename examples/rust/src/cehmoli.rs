@@ -1,4 +1,5 @@
-//! The calls of the library as safe functions.
+//! The calls of the library as safe functions. `join` and `session` want a stack of 8 MiB (`docs/SERVING.md`): the first thread has it by
+//! default, and another has to ask for it.
 
 /// How many bytes a packed record can have, how many variables a rule, and how many bytes the text of a session.
 pub const RECORD_BYTES: usize = 1539;
