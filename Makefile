@@ -7,7 +7,7 @@ MOUNTS = $(addprefix examples/mounts/, dirty-and-worn.record one-of-two-worn.rec
 CFLAGS = -std=c11 -O2 -Wall -Wextra -Wpedantic
 
 .PHONY: all run stack
-all: target/c/planner target/rust/release/planner
+all: target/c/planner target/c/kinds target/rust/release/planner
 
 # Proves the crate and those below it, and then builds the library.
 $(LIBRARY): $(SOURCES)
@@ -21,11 +21,13 @@ target/c/%: examples/c/%.c include/cehmoli.h $(LIBRARY)
 target/rust/release/planner: $(LIBRARY) $(wildcard examples/rust/*.* examples/rust/src/*)
 	cargo build --release --offline --manifest-path examples/rust/Cargo.toml --target-dir target/rust
 
-# Both planners say the same.
+# Both planners say the same, and each kind of answer comes as the header says.
 run: all
-	target/c/planner $(SPOILED) $(MOUNTS) | tee target/c/said
-	target/rust/release/planner $(SPOILED) $(MOUNTS) | tee target/rust/said
+	target/c/planner $(SPOILED) $(MOUNTS) > target/c/said
+	cat target/c/said
+	target/rust/release/planner $(SPOILED) $(MOUNTS) > target/rust/said
 	cmp target/c/said target/rust/said
+	target/c/kinds
 
 # How much stack the calls take.
 stack: target/c/stack
