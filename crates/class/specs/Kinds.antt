@@ -3,7 +3,7 @@ use Rattle.std.specs.Prelude.{◌≡◌, List, [], ◌∷◌, Ok, Err, Result}
 use Rattle.class.specs.declared.kind.Refusal.{Refusal}
 
 -- members of any size, which covers which, and which are within the limit; what a thing means, when it is tidy,
--- and the number with which the join of two things is refused
+-- and the number with which the join of two things is refused; and what exactly tidying and joining leave, by the kind's own definitions
 pub record Subject (Thing : Type 0) : Type 1 where
   pub member : Type 0
   pub above : member → member → Type 0
@@ -11,6 +11,8 @@ pub record Subject (Thing : Type 0) : Type 1 where
   pub means : Thing → member
   pub tidy : Thing → Type 0
   pub refusal : Thing → Thing → Refusal
+  pub tidies : Thing → Thing → Type 0
+  pub joins : Thing → Thing → Result (Unit {0}) Refusal → Thing → Type 0
 
 -- covering is reflexive and transitive, and each thing means a member within the limit
 pub record Laws {Thing : Type 0} (k : Subject Thing) : Type 0 where
@@ -41,8 +43,9 @@ module _ {Thing : Type 0} (k : Subject Thing) where
     pub up : Covers y x
     pub down : Covers x y
     pub tidy : k.tidy y
+    pub value : k.tidies x y
 
   -- joining x with y left z
   abbrev pub Joined : Thing → Thing → Result (Unit {0}) Refusal → Thing → Type 0
-  Joined x y (Ok _) z = Least (k.means z) (k.means x ∷ k.means y ∷ []) × k.tidy z
-  Joined x y (Err e) z = (Held (k.means x ∷ k.means y ∷ []) → ⊥) × (e ≡ k.refusal x y) × (z ≡ x)
+  Joined x y (Ok o) z = Least (k.means z) (k.means x ∷ k.means y ∷ []) × k.tidy z × k.joins x y (Ok o) z
+  Joined x y (Err e) z = (Held (k.means x ∷ k.means y ∷ []) → ⊥) × (e ≡ k.refusal x y) × (z ≡ x) × k.joins x y (Err e) z

@@ -11,7 +11,8 @@ pub struct Refusal {
 }
 
 pub trait Kind: Sized {
-    // The members, which covers which, the limit, what each thing means, which things are tidy, and the number of a refused join.
+    // The members, which covers which, the limit, what each thing means, which things are tidy, the number of a refused join, and
+    // what exactly tidying and joining leave.
     ghost kind: { Subject Self };
 
     // Whether this thing covers the other: subsumption.

@@ -4,7 +4,8 @@ use Rattle.class.specs.declared.classes.Class.{Class}
 use Rattle.class.specs.declared.kind.Refusal.{Refusal}
 use Rattle.class.specs.Calls.{Admitted}
 use Rattle.class.specs.Kinds.{Least, Held}
-use Rattle.class.specs.Runs.{Call, admit, fits, issue, State, gathers, rule, Step, Run, took, taken, Law}
+use Rattle.class.specs.Runs.{Call, admit, fits, issue, gathers, rule, taken, Law}
+use Rattle.class.proofs.Longer.{run-longer, taken-longer}
 use Rattle.listing.specs.Shown.{shown}
 use Rattle.place.specs.declared.placed.PlaceWord.{PlaceWord}
 use Rattle.place.specs.Places.{meaning, places}
@@ -18,16 +19,6 @@ use Rattle.gathering.specs.Gathered.{Ruled}
 use Rattle.gathering.specs.Lines.{taken_line}
 use Rattle.gathering.specs.States.{Gathering}
 
--- one call more at the end of a run
-run_more : (s : State PlaceWord) (calls : List (Call PlaceWord)) (t : State PlaceWord) (a : Call PlaceWord) (u : State PlaceWord)
-    → Run places s calls t → Step places t a u → Run places s (calls ++ (a ∷ [])) u
-run_more s [] t a u e h = (u, subst (λ (v : State PlaceWord). Step places v a u) e h, refl)
-run_more s (b ∷ calls) t a u w h = (w.0, w.1, run_more w.0 calls t a u w.2 h)
-
-taken_more : (ms : List Word) (calls : List (Call PlaceWord)) (a : Call PlaceWord) → taken places ms (calls ++ (a ∷ [])) ≡ took places (taken places ms calls) a
-taken_more ms [] a = refl
-taken_more ms (b ∷ calls) a = taken_more (took places ms b) calls a
-
 -- the first place word, and one more
 pub begins : (x : PlaceWord) (c : Class PlaceWord) → Law places x c → Gathering (meaning x ∷ []) c
 begins x c l = record { first = x; begun = c; calls = []; law = l; run = refl; all = refl }
@@ -38,8 +29,8 @@ admits ms c x d g a = record {
   begun = g.begun;
   calls = g.calls ++ (admit x (Ok tt) ∷ []);
   law = g.law;
-  run = run_more (gathers g.begun) g.calls (gathers c) (admit x (Ok tt)) (gathers d) g.run a;
-  all = ap (λ (l : List Word). meaning x ∷ l) g.all ∙ sym (taken_more (meaning g.first ∷ []) g.calls (admit x (Ok tt)));
+  run = run-longer places (gathers g.begun) g.calls (gathers c) (admit x (Ok tt)) (gathers d) g.run a;
+  all = ap (λ (l : List Word). meaning x ∷ l) g.all ∙ sym (taken-longer places (meaning g.first ∷ []) g.calls (admit x (Ok tt)));
 }
 
 -- the join of two place words is within the limit, so no place word is refused

@@ -7,9 +7,9 @@ use Rattle.term.specs.Words.{Word}
 use Rattle.number.specs.declared.fault.NumberFault.{NumberFault}
 use Rattle.number.specs.Faults.{told}
 use Rattle.listing.specs.Lines.{after}
-use Rattle.gathering.specs.Entries.{entry_at}
+use Rattle.entries.specs.Entries.{entry_at}
 use Rattle.gathering.specs.Gathered.{Told, one_entry, gathered_from, Ruled}
-use Rattle.gathering.specs.Lines.{bad_line}
+use Rattle.entries.specs.Lines.{bad_line}
 
 -- at the end of the input
 pub from_end : (turns : ℕ) (input : List ℕ) (at : ℕ) (ms : List Word) → length input ≤ at → gathered_from turns input at ms ≡ ([], ms)

@@ -14,8 +14,9 @@ use Rattle.term.specs.Coding.{hd, decode}
 use Rattle.term.specs.Lawful.{Numbered}
 use Rattle.term.specs.Words.{Word, vars}
 use Rattle.term.specs.declared.node.Node.{Node}
-use Rattle.gathering.specs.Entries.{entry_at}
-use Rattle.gathering.specs.Lines.{bad_line, taken_line}
+use Rattle.entries.specs.Entries.{entry_at}
+use Rattle.entries.specs.Lines.{bad_line}
+use Rattle.gathering.specs.Lines.{taken_line}
 
 -- the lines before the rule, and the words taken, the latest first
 abbrev pub Told : Type 0

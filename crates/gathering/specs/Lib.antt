@@ -1,4 +1,3 @@
 pub mod Lines
-pub mod Entries
 pub mod Gathered
 pub mod States

@@ -1,7 +1,6 @@
 // Gathers the place words of an input through a class, and tells what happened.
 #![tactic(auto)]
 
-mod entries;
 mod lines;
 mod taking;
 mod whole;

@@ -2,9 +2,9 @@
 ghost use Rattle.std.specs.Prelude.{IfOk, string_bytes};
 ghost use Rattle.gathering.specs.Gathered.{gathered, Ruled};
 
-use super::entries::entry;
 use super::lines::bad_line;
 use super::taking::Gatherer;
+use entries::entry;
 use std::alloc::{AllocError, Global};
 
 // Gathers the place words of the entries of `input`: a line for each entry, and last the rule.

@@ -4,4 +4,4 @@ pub mod Showing
 pub mod Separated
 pub mod Made
 mod Explaining
-mod Hexes
+pub mod Hexes

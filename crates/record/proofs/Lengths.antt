@@ -1,11 +1,11 @@
 -- How long the packed form of a record can be.
-use Rattle.std.proofs.Common.{◌≡◌, ℕ, zero, suc, ◌+◌, ◌*◌, ◌≤◌, List, [], ◌∷◌, ◌++◌, length, get_or, ap, arith, length-append}
+use Rattle.std.proofs.Common.{ℕ, zero, suc, ◌*◌, ◌≤◌, List, [], ◌∷◌, length, get_or, arith, length-append}
 use Rattle.std.specs.List.{flat_map}
 use Rattle.number.specs.Forms.{form}
 use Rattle.number.specs.Groups.{table, bits, groups}
 use Rattle.number.proofs.Formed.{length-form}
 use Rattle.term.specs.Coding.{codes}
-use Rattle.term.specs.Words.{Words, len}
+use Rattle.term.specs.Words.{len}
 use Rattle.term.specs.declared.node.Node.{Node}
 use Rattle.term.specs.declared.node.Node.TheVariants.{Variable, Applied}
 use Rattle.term.proofs.Codings.{length-codes}

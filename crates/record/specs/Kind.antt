@@ -17,13 +17,14 @@ use Rattle.term.specs.Words.{Word}
 use Rattle.record.specs.declared.clause.Record.{Record}
 use Rattle.record.specs.Held.{held, all-literals}
 use Rattle.record.specs.Records.{literals, clause}
+use Rattle.record.specs.Reductions.{Tidying, Joining}
 
 -- a clause of any size: literals, read as a set
 abbrev pub AnyClause : Type 0
 AnyClause = (C : List Word) × All Literal C
 
 -- the members are all clauses, and a record holds one of at most 16 literals and 256 nodes; it is tidy if tidying would
--- drop no literal; and a refused join has the number 11
+-- drop no literal; a refused join has the number 11; and tidying and joining leave what their definitions say
 abbrev pub records : Subject Record
 records = record {
   member = AnyClause;
@@ -32,6 +33,8 @@ records = record {
   means = λ r. (clause r, all-literals r);
   tidy = λ r. Tidy (clause r);
   refusal = λ _ _. record { number = 11 };
+  tidies = λ x y. Tidying (clause x) (clause y);
+  joins = Joining;
 }
 
 pub laws : Laws records
@@ -49,6 +52,7 @@ tidied x y R t e =
       up = rw e (covers-through (renumbered R) R (clause x) (variant-up R (renumbered R) v) (tidies-up t));
       down = rw e (covers-through (clause x) R (renumbered R) (tidies-down t) (variant-down R (renumbered R) v));
       tidy = rw e (renumbered-tidy R (tidies-tidy (clause x) R t));
+      value = (R, t, e);
     }
 
 -- the same of the raw clause of two, which is least over both
@@ -60,6 +64,7 @@ joined x y z R t e =
         below = λ E o. rw e (l.below E.0 E.1 o.0 o.1.0);
       },
       rw e (renumbered-tidy R (tidies-tidy (raw (clause x) (clause y)) R t)),
+      (R, t, e),
     )
 
 -- or beyond the limit
@@ -69,4 +74,5 @@ refused x y beyond = (
       (record { literals = h.0.1; left = h.2.over.0; right = h.2.over.1.0; below = λ F g c d. h.2.below (F, g) (c, (d, tt)) }),
   refl,
   refl,
+  (beyond, refl, refl),
 )

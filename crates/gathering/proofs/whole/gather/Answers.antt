@@ -6,7 +6,7 @@ use Rattle.place.specs.Packing.{read_place}
 use Rattle.listing.specs.Lines.{after}
 use Rattle.listing.proofs.Turns.{after-after}
 use Rattle.gathering.specs.Gathered.{Told, one_entry, gathered_from, gathered, Ruled}
-use Rattle.gathering.specs.Lines.{bad_line}
+use Rattle.entries.specs.Lines.{bad_line}
 use Rattle.gathering.proofs.Turns.{from_end, from_more, from-fault, ruled-after}
 use Rattle.gathering.proofs.whole.gather.Goals as goal
 use Rattle.gathering.proofs.whole.gather.Goals.{else-loop-at-test, then-loop-at-test+in-Err+in_ok-bad_line-in-Err+in_ok-push_str-in-Err}

@@ -38,4 +38,4 @@ returns c =
     let j = rw (c.word.ensures.start, c.word-2.ensures.start) at c.join_word.ensures in
     let e = join-nodes _ _ (elems p.nodes) (elems q.nodes) _ _ _ _ _ _ c.word.ensures.nodes c.word-2.ensures.nodes c.new-nodes.ensures c.new-pairs.ensures j in
     let value = meant (join (meaning p) (meaning q) []).0 (elems c.join_word.new.out) e in
-    record { joined = (join-is-least p q _ value, tt); passes = refl; value = value }
+    record { joined = (join-is-least p q _ value, tt, value); passes = refl; value = value }

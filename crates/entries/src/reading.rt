@@ -1,6 +1,6 @@
 // An entry of an input: a packed length, and that many bytes.
 ghost use Rattle.std.specs.Prelude.{◌≡◌};
-ghost use Rattle.gathering.specs.Entries.{entry_at, Inside};
+ghost use Rattle.entries.specs.Entries.{entry_at, Inside};
 
 use number::NumberFault;
 
