@@ -5,8 +5,8 @@ use anyhow::ensure;
 use std::env;
 use std::io::{Read, Write};
 
-// How many bytes a session's text can have, and one more byte than its input may have: with that many the session sees
-// that the input is too long.
+// How many bytes the session asks for, and one more byte than its input may have: with that many it sees that the input is
+// too long.
 const BUFFER: usize = 61_440;
 
 const INPUT: u64 = 4_097;

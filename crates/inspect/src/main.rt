@@ -8,7 +8,7 @@ use std::io::Read;
 use std::{env, fs};
 
 const USAGE: &str =
-    "usage: inspect [numbers | place | record] < FILE, or inspect covers RULE MOUNT";
+    "usage: inspect [numbers | place | record | tidy] < FILE, or inspect covers RULE MOUNT, or inspect join FIRST SECOND";
 
 // What is to be done with the bytes of standard input.
 #[derive(Clone, Copy)]
@@ -24,31 +24,26 @@ fn main(rt: HostRuntime) -> anyhow::Result<()> {
     for arg in env::args(&rt)?.skip(1) {
         args.push(arg)?;
     }
-    let task = match args.len() {
-        0 => Some(Task::Numbers),
-        1 => task_of(args[0].as_str()),
-        _ => None,
-    };
-    if let Some(task) = task {
-        return list(&rt, task);
-    }
-    if args.len() == 3 && args[0].as_str() == "covers" {
-        return covers(&rt, args[1].as_str(), args[2].as_str());
-    }
-    if args.len() == 3 && args[0].as_str() == "join" {
-        return join(&rt, args[1].as_str(), args[2].as_str());
-    }
-    bail!("{USAGE}")
-}
-
-// The task of this name.
-fn task_of(name: &str) -> Option<Task> {
-    match name {
-        "numbers" => Some(Task::Numbers),
-        "place" => Some(Task::Place),
-        "record" => Some(Task::Record),
-        "tidy" => Some(Task::Tidy),
-        _ => None,
+    match args.len() {
+        0 => list(&rt, Task::Numbers),
+        1 => match args[0].as_str() {
+            "numbers" => list(&rt, Task::Numbers),
+            "place" => list(&rt, Task::Place),
+            "record" => list(&rt, Task::Record),
+            "tidy" => list(&rt, Task::Tidy),
+            "--help" => {
+                rt.print(USAGE)?;
+                rt.print("\n")?;
+                Ok(())
+            }
+            _ => bail!("{USAGE}"),
+        },
+        3 => match args[0].as_str() {
+            "covers" => covers(&rt, args[1].as_str(), args[2].as_str()),
+            "join" => join(&rt, args[1].as_str(), args[2].as_str()),
+            _ => bail!("{USAGE}"),
+        },
+        _ => bail!("{USAGE}"),
     }
 }
 

@@ -1,4 +1,4 @@
-// Makes clauses as small as they can be. So far: numbers their variables anew.
+// Makes clauses as small as they can be: tidies them by the engine, and numbers their variables anew.
 #![tactic(auto)]
 
 mod compact;

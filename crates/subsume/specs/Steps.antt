@@ -1,4 +1,4 @@
--- The steps to the first choice, and to the witness.
+-- The steps to the first choice.
 use Rattle.std.specs.Prelude.{◌≡◌, ℕ, ◌<◌, ◌≤◌, List, length, take, slice_index, Option, All}
 use Rattle.term.specs.Words.{Word}
 use Rattle.term.specs.declared.node.Node.{Node}

@@ -33,7 +33,7 @@ impl<const W: usize> BitSet<W> {
     }
 
     // The set of all numbers below 64 * W.
-    pub fn full() -> BitSet<W>
+    pub(super) fn full() -> BitSet<W>
         requires { W ≤ 1024 }
         ensures { (k : ℕ) → k < 64 * W → bit_at result.words k ≡ 1 }
     {
@@ -69,7 +69,7 @@ impl<const W: usize> BitSet<W> {
     }
 
     // The least number in the set.
-    pub fn first(&self) -> Option<usize>
+    pub(super) fn first(&self) -> Option<usize>
         ensures { First self.now.words result }
     {
         self.first_from(0)
@@ -97,14 +97,14 @@ impl<const W: usize> BitSet<W> {
     }
 
     // Whether no number is in the set.
-    pub fn is_empty(&self) -> bool
+    pub(super) fn is_empty(&self) -> bool
         ensures { Decides result (First self.now.words None) }
     {
         self.first().is_none()
     }
 
     // Takes the least number out of the set.
-    pub fn pop(&mut self) -> Option<usize>
+    pub(super) fn pop(&mut self) -> Option<usize>
         ensures { Popped self.old.words self.new.words result }
     {
         let k = self.first()?;
@@ -113,7 +113,7 @@ impl<const W: usize> BitSet<W> {
     }
 
     // Takes out the least number from `from` on; where none is left there, the least.
-    pub fn pop_from(&mut self, from: usize) -> Option<usize>
+    pub(super) fn pop_from(&mut self, from: usize) -> Option<usize>
         ensures { PoppedFrom self.old.words self.new.words from result }
     {
         match self.first_from(from) {
@@ -126,7 +126,7 @@ impl<const W: usize> BitSet<W> {
     }
 
     // The number in the set, where it has no other.
-    pub fn only(&self) -> Option<usize>
+    pub(super) fn only(&self) -> Option<usize>
         ensures { Only self.now.words result }
     {
         let mut rest = *self;
@@ -138,7 +138,7 @@ impl<const W: usize> BitSet<W> {
     }
 
     // How many numbers are in the set.
-    pub fn count(&self) -> u32
+    pub(super) fn count(&self) -> u32
         ensures { result ≡ sum (map count_ones self.now.words) }
     {
         self.words.iter().map(|word| word.count_ones()).sum()
@@ -146,7 +146,7 @@ impl<const W: usize> BitSet<W> {
 }
 
 // The least bit of a word that has some, and the word without it.
-pub fn part(word: u64) -> (usize, u64)
+pub(super) fn part(word: u64) -> (usize, u64)
     requires { 0 < word }
     ensures { Parted word result.0 result.1 }
 {

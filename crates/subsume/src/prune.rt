@@ -141,7 +141,7 @@ impl<const N: usize, const W: usize> Table<'_, N, W> {
     }
 
     // Puts the variables of literal `i` into the queue.
-    pub fn enqueue(&self, i: usize, queue: &mut BitSet<W>)
+    pub(super) fn enqueue(&self, i: usize, queue: &mut BitSet<W>)
         ensures { (l : ℕ) → bit_at queue.old.words l ≡ 1 → bit_at queue.new.words l ≡ 1 }
     {
         let first = self.first.get(i).copied().unwrap_or(0);
@@ -174,7 +174,7 @@ impl<const N: usize, const W: usize> Table<'_, N, W> {
     }
 
     // Strikes out candidates until no two literals disagree, beginning at the variables in the queue.
-    pub fn prune(&self, sets: &mut [BitSet<4>], mut queue: BitSet<W>)
+    pub(super) fn prune(&self, sets: &mut [BitSet<4>], mut queue: BitSet<W>)
         requires { length self.now.literals.starts.now ≤ length sets.old }
         ensures { Pruned self.now.slots.now (length self.now.literals.starts.now) (length self.now.targets.starts.now) sets.old sets.new }
     {

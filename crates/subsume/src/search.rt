@@ -111,7 +111,7 @@ impl<const N: usize, const W: usize> Table<'_, N, W> {
     }
 
     // Whether some choice works. Where it says no, none works whose targets are left.
-    pub fn solvable<const V: usize>(&self, state: State<N>) -> bool
+    pub(super) fn solvable<const V: usize>(&self, state: State<N>) -> bool
         requires variables { Below V self.now.literals.nodes.now × (V ≤ 65536) }
         requires picked { Picked state.sets (length self.now.literals.starts.now) (length self.now.targets.starts.now) state.picks }
         ensures found { result ≡ true → Solved self.now.literals.nodes.now self.now.literals.starts.now self.now.targets.nodes.now self.now.targets.starts.now }
@@ -121,7 +121,7 @@ impl<const N: usize, const W: usize> Table<'_, N, W> {
     }
 
     // A choice that works; or none, where none works whose targets are left.
-    pub fn search<const V: usize>(&self, mut state: State<N>) -> Option<[Option<u16>; N]>
+    pub(super) fn search<const V: usize>(&self, mut state: State<N>) -> Option<[Option<u16>; N]>
         requires variables { Below V self.now.literals.nodes.now × (V ≤ 65536) }
         requires picked { Picked state.sets (length self.now.literals.starts.now) (length self.now.targets.starts.now) state.picks }
         ensures found { IfSome result (λ picks. Made picks (length self.now.literals.starts.now) (length self.now.targets.starts.now) × Works self.now.literals.nodes.now self.now.literals.starts.now self.now.targets.nodes.now self.now.targets.starts.now (picked picks)) }
@@ -155,7 +155,7 @@ impl<const N: usize, const W: usize> Table<'_, N, W> {
     }
 
     // What is left once literal `i` takes the target `j`.
-    pub fn take(&self, state: &State<N>, i: usize, j: usize) -> State<N>
+    pub(super) fn take(&self, state: &State<N>, i: usize, j: usize) -> State<N>
         requires literal { i < length self.now.literals.starts.now }
         requires target { j < length self.now.targets.starts.now }
         ensures taken { Taken self.now.slots.now (length self.now.literals.starts.now) (length self.now.targets.starts.now) state.now.sets i j result.sets }
