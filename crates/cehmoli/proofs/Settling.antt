@@ -1,5 +1,5 @@
 -- A call is settled by its arguments.
-use Rattle.std.proofs.Common.{◌≡◌, ℕ, suc, ◌≤◌, List, [], ◌∷◌, ◌++◌, All, Contains, length, get_or, take, drop, Some, None, Ok, Err, Option, Result, sym, refl, ap, ◌∙◌, subst, ap₂, inl, inr, ◌==◌, arith}
+use Rattle.std.proofs.Common.{◌≡◌, ℕ, ◌≤◌, List, [], ◌∷◌, ◌++◌, All, Contains, length, get_or, take, drop, Some, None, Ok, Err, Option, Result, sym, refl, ap, ◌∙◌, subst, ap₂, inl, inr, ◌==◌, arith}
 use Rattle.std.specs.List.{AllZip, slice_get, find}
 use Rattle.std.proofs.lemmas.List.{ext_get_or, length-take, take-append-drop}
 use Rattle.std.proofs.lemmas.List.Elements.{All-nil, All-cons}
@@ -8,10 +8,6 @@ use Rattle.class.specs.Kinds.{Joined}
 use Rattle.class.specs.declared.kind.Refusal.{Refusal}
 use Rattle.clauses.specs.Clauses.{Covers, each}
 use Rattle.clauses.specs.Joins.{raw}
-use Rattle.clauses.specs.Least.{Within}
-use Rattle.clauses.specs.Numbering.{renumbered}
-use Rattle.clauses.proofs.Numberings.{length-renumbered, size-renumbered}
-use Rattle.clauses.proofs.Reductions.{tidies-one}
 use Rattle.number.specs.Writes.{Wrote}
 use Rattle.number.specs.declared.fault.NoRoom.{NoRoom}
 use Rattle.record.specs.Clauses.{variables}
@@ -21,8 +17,9 @@ use Rattle.record.specs.Records.{literals, clause}
 use Rattle.record.specs.Reductions.{Tidying, Beyond}
 use Rattle.record.specs.declared.clause.Record.{Record}
 use Rattle.record.specs.declared.fault.RecordFault.{RecordFault}
+use Rattle.session.proofs.Oneness.{tidying-one, not-both, each-one}
 use Rattle.subsume.specs.FirstChoices.{Chooses, NoLater, FirstChoice}
-use Rattle.term.specs.Words.{Word, Words, nil, cons, sub}
+use Rattle.term.specs.Words.{Word, Words, sub}
 use Rattle.witness.specs.Witness.{meetings, Witness, Witnessed}
 use Rattle.witness.specs.declared.witnesses.TooFewEntries.{TooFewEntries}
 use Rattle.cehmoli.specs.Answers.{answered, refused}
@@ -107,24 +104,6 @@ Left (Err e) C z = Beyond C × (e ≡ record { number = 11 })
 left : (x y : Record) (r : Result (Unit {0}) Refusal) (z : Record) → Joined records x y r z → Left r (raw (clause x) (clause y)) z
 left x y (Ok o) z j = j.2
 left x y (Err e) z j = (j.3.0, j.3.1)
-
-tidying-one : (C D E : List Word) → Tidying C D → Tidying C E → D ≡ E
-tidying-one C D E p q = p.2 ∙ ap renumbered (tidies-one p.1 q.1) ∙ sym q.2
-
-not-both : (C D : List Word) → Tidying C D → Within D → Beyond C → ⊥
-not-both C D t w b =
-    let R = t.0 in
-    let n = subst (λ (l : List Word). Within l) t.2 w in
-    b R t.1 (omega (arith, n.0, length-renumbered R), omega (arith, n.1, size-renumbered R))
-
-each-one : (us vs : Words) → each us ≡ each vs → us ≡ vs
-each-one nil nil e = refl
-each-one nil (cons v vs) e = let z : ◌≡◌ {A = ℕ} 0 (suc (length (each vs))) = ap length e in absurd (omega arith)
-each-one (cons u us) nil e = let z : ◌≡◌ {A = ℕ} (suc (length (each us))) 0 = ap length e in absurd (omega arith)
-each-one (cons u us) (cons v vs) e =
-    let h : u ≡ v = cc in
-    let t : each us ≡ each vs = cc in
-    ap₂ cons h (each-one us vs t)
 
 written-one : (form before : List ℕ) (v w : Result ℕ NoRoom) (after other : List ℕ) → Wrote form 0 before v after → Wrote form 0 before w other → (write_answer v ≡ write_answer w) × (after ≡ other)
 written-one form before (Ok n) (Ok m) after other p q =

@@ -27,7 +27,7 @@ use Rattle.session.specs.declared.lines.Line.{Line}
 use Rattle.session.specs.declared.lines.Line.TheVariants.{Taken, Refused}
 
 -- tidying has one result
-tidying-one : (C D E : List Word) → Tidying C D → Tidying C E → D ≡ E
+pub tidying-one : (C D E : List Word) → Tidying C D → Tidying C E → D ≡ E
 tidying-one C D E p q = p.2 ∙ ap renumbered (tidies-one p.1 q.1) ∙ sym q.2
 
 -- what becomes of a rule and a record, as clauses: it stays, it is joined, or it stays since that is beyond the limit
@@ -42,7 +42,7 @@ outcome c x (Ok o) d (inr w, n) = joins w.0 w.1.2 (laws.inside d.rule) refl
 outcome c x (Err e) d a = refuses a.0 a.1.3.0 (ap clause a.1.2) (ap (λ (r : Refusal). Refused r.number) a.1.1)
 
 -- what is joined is not beyond the limit
-not-both : (C D : List Word) → Tidying C D → Within D → Beyond C → ⊥
+pub not-both : (C D : List Word) → Tidying C D → Within D → Beyond C → ⊥
 not-both C D t w b =
     let R = t.0 in
     let n = subst (λ (l : List Word). Within l) t.2 w in
@@ -111,8 +111,8 @@ once-entries (suc turns) input at =
     once-either (ltb at (length input)) (Onward input (entry_at input at) (Entries turns input)) Ended
     (once-onward input (entry_at input at) (Entries turns input) (once-entries turns input)) once-ended
 
--- so its last line is the same
-each-one : (us vs : Words) → each us ≡ each vs → us ≡ vs
+-- literals one after the other are the same where they are the same as lists
+pub each-one : (us vs : Words) → each us ≡ each vs → us ≡ vs
 each-one nil nil e = refl
 each-one nil (cons v vs) e = let z : ◌≡◌ {A = ℕ} 0 (suc (length (each vs))) = ap length e in absurd (omega arith)
 each-one (cons u us) nil e = let z : ◌≡◌ {A = ℕ} (suc (length (each us))) 0 = ap length e in absurd (omega arith)
@@ -121,6 +121,7 @@ each-one (cons u us) (cons v vs) e =
     let t : each us ≡ each vs = cc in
     ap₂ cons h (each-one us vs t)
 
+-- so the last line is the same
 rule-one : (m n : Option Met) → Same m n → rule_line (in_hand m) ≡ rule_line (in_hand n)
 unfolding rule_line
 rule-one None None s = refl
