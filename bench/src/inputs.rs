@@ -208,7 +208,11 @@ pub fn graph(random: &mut Random, size: usize, constants: usize) -> Clause {
 pub fn grid(wide: usize, high: usize, variables: bool) -> Clause {
     let at = |x: usize, y: usize| {
         let k = x + wide * y;
-        if variables { variable(k as u32) } else { constant(k) }
+        if variables {
+            variable(k as u32)
+        } else {
+            constant(k)
+        }
     };
     let mut literals = Vec::new();
     for y in 0..high {

@@ -188,7 +188,13 @@ impl<const W: usize, const D: usize> Search<W, D> {
                     None => {
                         let at = self.standings.len() as u16;
                         let head = &mut self.heads[variable as usize];
-                        self.standings.push(Standing { literal: l as u16, variable, column: column as u16, next: *head, pair: 0 });
+                        self.standings.push(Standing {
+                            literal: l as u16,
+                            variable,
+                            column: column as u16,
+                            next: *head,
+                            pair: 0,
+                        });
                         *head = at;
                     }
                 }

@@ -41,12 +41,16 @@ fn examples() {
 }
 
 fn path(size: usize) -> Clause {
-    inputs::lawful(&(0..size as u32).map(|k| vec![predicate(false, 1, 2), variable(k), variable(k + 1)]).collect::<Vec<_>>())
+    inputs::lawful(
+        &(0..size as u32).map(|k| vec![predicate(false, 1, 2), variable(k), variable(k + 1)]).collect::<Vec<_>>(),
+    )
 }
 
 fn round(size: usize) -> Clause {
     let n = size as u32;
-    inputs::lawful(&(0..n).map(|k| vec![predicate(false, 1, 2), variable(k), variable((k + 1) % n)]).collect::<Vec<_>>())
+    inputs::lawful(
+        &(0..n).map(|k| vec![predicate(false, 1, 2), variable(k), variable((k + 1) % n)]).collect::<Vec<_>>(),
+    )
 }
 
 #[test]
@@ -175,7 +179,11 @@ fn raw_clauses() {
         let covered = engine.covers(&rule, &raw);
         assert_eq!(covered, slow::covers(&rule, &raw));
         assert_eq!(covered, engine.covers(&rule, &a) && engine.covers(&rule, &b));
-        if covered { yes += 1 } else { no += 1 }
+        if covered {
+            yes += 1
+        } else {
+            no += 1
+        }
     }
     println!("{yes} {no}");
     assert!(yes > 100 && no > 100);

@@ -22,10 +22,7 @@ fn tidied_examples() {
         ("q(X), p(f), q(f)", "p(f), q(f)"),
         ("p(X), p(Y), p(f(h)), p(f(X))", "p(X), p(f(h)), p(f(X))"),
         ("p(f(Z1),Z2), p(Z3,Z4), p(f(Z5),Z6), p(Z7,g(Z1))", "p(f(Z1),Z2), p(Z7,g(Z1))"),
-        (
-            "-occ(n1,x,P), -occ(A,x,P), -occ(B,Y,P), -occ(n2,Y,P), win(P)",
-            "-occ(n1,x,P), -occ(n2,Y,P), win(P)",
-        ),
+        ("-occ(n1,x,P), -occ(A,x,P), -occ(B,Y,P), -occ(n2,Y,P), win(P)", "-occ(n1,x,P), -occ(n2,Y,P), win(P)"),
         ("", ""),
     ] {
         let mut names = Names::default();
@@ -179,7 +176,10 @@ fn classes() {
         (vec!["p(f), q(f)", "p(h)"], "p(X)"),
         (vec!["p(f), q(f)", "p(g), q(g)", "p(h)"], "p(X)"),
         (vec!["p(f(a),g(c))", "p(f(a),h(d))", "p(f(b),X)"], "p(f(X),Y)"),
-        (vec!["-tiger(tom), -stripes(tom), tawny(tom)", "-tiger(bob), -stripes(bob), white(bob)"], "-tiger(X), -stripes(X)"),
+        (
+            vec!["-tiger(tom), -stripes(tom), tawny(tom)", "-tiger(bob), -stripes(bob), white(bob)"],
+            "-tiger(X), -stripes(X)",
+        ),
     ] {
         let mut names = Names::default();
         let records: Vec<Clause> = records.iter().map(|r| text::clause(&mut names, r)).collect();

@@ -60,7 +60,11 @@ fn records() {
 
 fn fault(form: &[u8], question: u8, byte: usize, literal: Option<u8>, layers: &[Layer]) {
     let fault = record::read(form, &mut Clause::default()).unwrap_err();
-    assert_eq!((fault.question, fault.byte, fault.literal, fault.layers), (question, byte, literal, layers), "{form:x?}");
+    assert_eq!(
+        (fault.question, fault.byte, fault.literal, fault.layers),
+        (question, byte, literal, layers),
+        "{form:x?}"
+    );
 }
 
 #[test]
@@ -85,7 +89,11 @@ fn faults_of_records() {
     fault(&hex("01 02 01 07 09"), 5, 4, Some(0), &[Word, Literal, Record]);
     fault(&hex("02 02 01 00 04 01 04"), 7, 6, Some(1), &[Word, Literal, Record]);
     assert!(record::read(&hex("02 02 01 00 04 01 02"), &mut Clause::default()).is_ok());
-    assert!(record::read(&hex("10 00 00 01 00 02 00 03 00 04 00 05 00 06 00 07 00 08 00 09 00 0A 00 0B 00 0C 00 0D 00 0E 00 0F 00"), &mut Clause::default()).is_ok());
+    assert!(record::read(
+        &hex("10 00 00 01 00 02 00 03 00 04 00 05 00 06 00 07 00 08 00 09 00 0A 00 0B 00 0C 00 0D 00 0E 00 0F 00"),
+        &mut Clause::default()
+    )
+    .is_ok());
     fault(&hex("11 80 00"), 4, 0, None, &[Record]);
 }
 

@@ -16,9 +16,7 @@ fn run(input: &[u8]) -> String {
     String::from_utf8(out[..length].to_vec()).unwrap()
 }
 
-const EXAMPLE: [u8; 22] = [
-    9, 2, 2, 1, 7, 0, 4, 1, 7, 0, 9, 2, 2, 1, 9, 0, 4, 1, 9, 0, 1, 0x11,
-];
+const EXAMPLE: [u8; 22] = [9, 2, 2, 1, 7, 0, 4, 1, 7, 0, 9, 2, 2, 1, 9, 0, 4, 1, 9, 0, 1, 0x11];
 
 #[test]
 fn example() {
