@@ -140,8 +140,9 @@ fn shape_joins(random: &mut Random) -> Vec<Question> {
 }
 
 fn rings() -> Vec<Question> {
-    let ring = |size| pack(&inputs::ring(size));
-    (2..=16).flat_map(|n| (2..=16).map(move |m| Join(ring(n), ring(m)))).collect()
+    // without a common constant
+    let apart = |n, m| Join(pack(&inputs::ring(n)), pack(&inputs::ring_from(m, 16)));
+    (2..=16).flat_map(|n| (2..=16).map(move |m| apart(n, m))).collect()
 }
 
 fn graph(random: &mut Random, size: usize) -> Vec<u8> {

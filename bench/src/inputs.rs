@@ -196,7 +196,13 @@ pub fn mixed_instance(random: &mut Random, clause: &Clause, size: usize) -> Clau
 
 /// `p` round n constants, each next to the following one.
 pub fn ring(size: usize) -> Clause {
-    lawful(&(0..size).map(|k| two_places(0, constant(k), constant((k + 1) % size))).collect::<Vec<_>>())
+    ring_from(size, 0)
+}
+
+/// A ring around the constants from `first` on.
+pub fn ring_from(size: usize, first: usize) -> Clause {
+    let at = |k: usize| constant(first + k % size);
+    lawful(&(0..size).map(|k| two_places(0, at(k), at(k + 1))).collect::<Vec<_>>())
 }
 
 /// A random graph: this many literals of one predicate over constants.
