@@ -150,6 +150,12 @@ call; the library keeps nothing. The ratio is the library's mean by that of plai
 
 Tidying is asked as a session of one record, since the library has no call for it alone; reading and printing are in it.
 
+## Not in the table
+
+The time of the library has no proved bound, and there are inputs on which it is out of all proportion. One came up in the comparison with `--seed 2`:
+a session of 273 bytes, four random graphs of 3, 7, 7 and 16 literals of one predicate (`bench/slow-session.hex`). Plain Rust answers it in 0.2
+milliseconds; the library had not answered after nine minutes, and was stopped. So `--seed 2` does not end in useful time, and that answer is not compared.
+
 ## Growth
 
 Mean times again. By literals: a connected rule of N literals with N/2 + 2 variables and a random mount of N literals over N/2 + 1 constants,
