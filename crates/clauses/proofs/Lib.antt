@@ -16,3 +16,4 @@ pub mod Numberings
 pub mod Limits
 pub mod Below
 pub mod Ordered
+pub mod Retractions

@@ -12,10 +12,19 @@ use Rattle.clauses.proofs.Parts.{All-remove, remove-remove}
 use Rattle.clauses.proofs.Coverings.{covers-part, covers-itself, covers-through, removed-covers}
 
 -- none of the first literals can be left out
-abbrev Needed : ℕ → List Word → Type 0
+abbrev pub Needed : ℕ → List Word → Type 0
 Needed hand C = (k : ℕ) → k < hand → k < length C → Covers C (remove C k) → ⊥
 
-needed-removed : (hand : ℕ) (C : List Word) → hand < length C → Covers C (remove C hand) → Needed hand C → Needed hand (remove C hand)
+pub needed-none : (C : List Word) → Needed 0 C
+needed-none C = λ k lt. absurd (omega arith)
+
+pub needed-kept : (hand : ℕ) (C : List Word) → (Covers C (remove C hand) → ⊥) → Needed hand C → Needed (hand + 1) C
+needed-kept hand C c n k lt within d = elim (cases_lt k hand) [
+  | inl l ↦ n k l within d
+  | inr le ↦ (let e : k ≡ hand = omega arith in c (subst (λ j. Covers C (remove C j)) e d))
+]
+
+pub needed-removed : (hand : ℕ) (C : List Word) → hand < length C → Covers C (remove C hand) → Needed hand C → Needed hand (remove C hand)
 needed-removed zero C h c n k lt within d = absurd (omega arith)
 needed-removed (suc hand) C h c n k lt within d =
     n k lt (omega arith)
@@ -26,12 +35,10 @@ needed-removed (suc hand) C h c n k lt within d =
 needed-tidy : {hand : ℕ} {C R : List Word} → Tidies hand C R → Needed hand C → Tidy R
 needed-tidy (done h) n = λ k lt. n k (omega arith) lt
 needed-tidy (drops {hand = hand} {C = C} h c t) n = needed-tidy t (needed-removed hand C h c n)
-needed-tidy (keeps {hand = hand} {C = C} h c t) n = needed-tidy t
-    (λ k lt within d. elim (cases_lt k hand)
-    [ inl l ↦ n k l within d | inr le ↦ (let e : k ≡ hand = omega arith in c (subst (λ j. Covers C (remove C j)) e d)) ])
+needed-tidy (keeps {hand = hand} {C = C} h c t) n = needed-tidy t (needed-kept hand C c n)
 
 pub tidies-tidy : (C R : List Word) → Tidies 0 C R → Tidy R
-tidies-tidy C R t = needed-tidy t (λ k lt. absurd (omega arith))
+tidies-tidy C R t = needed-tidy t (needed-none C)
 
 -- the clause and what tidying leaves cover each other
 pub tidies-down : {hand : ℕ} {C R : List Word} → Tidies hand C R → Covers C R

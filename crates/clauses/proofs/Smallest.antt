@@ -13,13 +13,31 @@ use Rattle.clauses.proofs.Coverings.{takes, covers-part, covers-through}
 pub same-word : Discrete Word
 same-word = Word-discrete ℕ_discrete Symbol-discrete
 
+-- a literal without which the rest is not covered
+module _ (C : List Word) (m : Word) (i : Contains C m) (needed : Covers C (remove C i.0) → ⊥) where
+  -- stands once
+  pub stands-once : Contains (remove C i.0) m → ⊥
+  stands-once c =
+      needed
+      (covers-part C (remove C i.0) (All-from (Contains (remove C i.0)) C
+      (λ l j. elim (removed-cases C m l i j) [ inl e ↦ subst (Contains (remove C i.0)) e c | inr k ↦ k ])))
+
+  -- is reached by what takes the clause into itself
+  pub reached : (c : Covers C C) → (l : Word) × Contains C l × (sub c.0 l ≡ m)
+  reached c =
+      elim (found same-word (sub c.0) m C) [
+        | inl r ↦ r
+        | inr none ↦ absurd (needed (
+          c.0,
+          All-from (λ l. Contains (remove C i.0) (sub c.0 l)) C
+              (λ l j. elim (removed-cases C m (sub c.0 l) i (takes C C c l j)) [ inl e ↦ absurd (none l j (sym e)) | inr k ↦ k ]),
+        ))
+      ]
+
 module _ (C : List Word) (t : Tidy C) where
   -- no literal stands twice
   pub tidy-once : (l : Word) (i : Contains C l) → Contains (remove C i.0) l → ⊥
-  tidy-once l i c =
-      t i.0 i.1
-      (covers-part C (remove C i.0) (All-from (Contains (remove C i.0)) C
-      (λ m j. elim (removed-cases C l m i j) [ inl e ↦ subst (Contains (remove C i.0)) e c | inr k ↦ k ])))
+  tidy-once l i = stands-once C l i (t i.0 i.1)
 
   pub tidy-apart : Apart C
   tidy-apart = apart-from C tidy-once
@@ -29,15 +47,7 @@ module _ (C : List Word) (t : Tidy C) where
 
   -- what takes it into itself takes it onto itself
   pub tidy-onto : (c : Covers C C) (m : Word) → Contains C m → (l : Word) × Contains C l × (sub c.0 l ≡ m)
-  tidy-onto c m i =
-      elim (found same-word (sub c.0) m C) [
-        | inl r ↦ r
-        | inr none ↦ absurd (t i.0 i.1 (
-          c.0,
-          All-from (λ l. Contains (remove C i.0) (sub c.0 l)) C
-              (λ l j. elim (removed-cases C m (sub c.0 l) i (takes C C c l j)) [ inl e ↦ absurd (none l j (sym e)) | inr k ↦ k ]),
-        ))
-      ]
+  tidy-onto c m i = reached C m i (t i.0 i.1) c
 
   module _ (E : List Word) (c : Covers C E) (d : Covers E C) where
     pub tidy-one-to-one : (l m : Word) → Contains C l → Contains C m → sub c.0 l ≡ sub c.0 m → l ≡ m
