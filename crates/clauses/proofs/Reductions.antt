@@ -7,13 +7,9 @@ use Rattle.std.proofs.lemmas.List.Edits.{length-remove}
 use Rattle.std.proofs.lemmas.List.Sums.{sum_by-remove}
 use Rattle.term.specs.Words.{Word, var}
 use Rattle.clauses.specs.Clauses.{Covers}
-use Rattle.clauses.specs.Reduction.{Tidy, Tidies, done, drops, keeps}
+use Rattle.clauses.specs.Reduction.{Tidy, Needed, Tidies, done, drops, keeps}
 use Rattle.clauses.proofs.Parts.{All-remove, remove-remove}
 use Rattle.clauses.proofs.Coverings.{covers-part, covers-itself, covers-through, removed-covers}
-
--- none of the first literals can be left out
-abbrev pub Needed : ℕ → List Word → Type 0
-Needed hand C = (k : ℕ) → k < hand → k < length C → Covers C (remove C k) → ⊥
 
 pub needed-none : (C : List Word) → Needed 0 C
 needed-none C = λ k lt. absurd (omega arith)

@@ -9,10 +9,9 @@ use Rattle.std.specs.Fn.{iterate}
 use Rattle.term.specs.Words.{Word, var, sub}
 use Rattle.term.proofs.Substitutions.{sub-var, sub-sub}
 use Rattle.clauses.specs.Clauses.{Covers}
-use Rattle.clauses.specs.Reduction.{Retracts}
+use Rattle.clauses.specs.Reduction.{Needed}
 use Rattle.clauses.proofs.Parts.{All-from, removed-cases, removed-contains}
 use Rattle.clauses.proofs.Coverings.{takes}
-use Rattle.clauses.proofs.Reductions.{Needed}
 use Rattle.clauses.proofs.Smallest.{same-word, stands-once, reached}
 
 module _ {X : Type 0} (f : X → X) where
@@ -135,25 +134,33 @@ idempotent C θ h =
 abbrev at : (C : List Word) (k : ℕ) → k < length C → Contains C (get_or C k (var 0))
 at C k lt = (k, lt, get_or_default C k (get_or C k (var 0)) (var 0) lt)
 
--- what takes a clause into a part of it takes it into itself
-abbrev into-itself : (C : List Word) (k : ℕ) → Covers C (remove C k) → Covers C C
-into-itself C k c = (c.0, All-weaker (λ l. Contains (remove C k) (sub c.0 l)) (λ l. Contains C (sub c.0 l)) (λ l. removed-contains C k (sub c.0 l)) C c.1)
+-- Where a clause covers the part D without a literal of it that has others needed before it, some substitution takes it there
+-- that does no more when it is done twice, and leaves the needed ones as they are.
+module _ (hand : ℕ) (C D : List Word) (lt : hand < length D) (needed : Needed hand D) (part : All (Contains C) D) (c : Covers C (remove D hand)) where
+  abbrev R : List Word
+  R = remove D hand
 
--- a literal that the others make needless is left out by a substitution that leaves the needed ones
-pub retracts : (hand : ℕ) (C : List Word) → hand < length C → Needed hand C → Covers C (remove C hand) → (ρ : ℕ → Word) × Retracts hand C ρ
-retracts hand C lt n c =
-    let p = idempotent C c.0 (into-itself C hand c).1 in
-    let into = p.2 (remove C hand) c.1 in (
-      p.0,
-      record {
-        into = into;
-        once = p.1;
-        fixed = λ k below.
-            let within : k < length C = omega arith in
-            let r = reached C (get_or C k (var 0)) (at C k within) (n k below within) (into-itself C hand (p.0, into)) in
-            ap (sub p.0) (sym r.2) ∙ p.1 r.0 r.1 ∙ r.2;
-      },
-    )
+  back : (l : Word) → Contains R l → Contains C l
+  back l i = All-contains (Contains C) D l part (removed-contains D hand l i)
+
+  pub retracts : (ρ : ℕ → Word) × All (λ l. Contains R (sub ρ l)) C × ((l : Word) → Contains C l → sub ρ (sub ρ l) ≡ sub ρ l)
+      × ((k : ℕ) → k < hand → sub ρ (get_or D k (var 0)) ≡ get_or D k (var 0))
+  retracts =
+      let p = idempotent C c.0 (All-weaker (λ l. Contains R (sub c.0 l)) (λ l. Contains C (sub c.0 l)) (λ l. back (sub c.0 l)) C c.1) in
+      let into = p.2 R c.1 in
+      let itself : Covers D D = (
+        p.0,
+        All-from (λ l. Contains D (sub p.0 l)) D
+            (λ l i. removed-contains D hand (sub p.0 l) (All-contains (λ m. Contains R (sub p.0 m)) C l into (All-contains (Contains C) D l part i))),
+      ) in (
+        p.0,
+        into,
+        p.1,
+        λ k below.
+            let within : k < length D = omega arith in
+            let r = reached D (get_or D k (var 0)) (at D k within) (needed k below within) itself in
+            ap (sub p.0) (sym r.2) ∙ p.1 r.0 (All-contains (Contains C) D r.0 part r.1) ∙ r.2,
+      )
 
 -- an element stands in what is left without the element at another place
 other-left : {X : Type 0} (xs : List X) (k j : ℕ) (d : X) → k < length xs → j < length xs → (k ≡ j → ⊥) → Contains (remove xs k) (get_or xs j d)

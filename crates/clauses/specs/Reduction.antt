@@ -1,11 +1,15 @@
 -- Tidying a clause: dropping the literals that the others make needless.
-use Rattle.std.specs.Prelude.{◌≡◌, ℕ, ◌+◌, ◌<◌, ◌≤◌, List, length, get_or, remove, All, Contains}
-use Rattle.term.specs.Words.{Word, var, sub}
+use Rattle.std.specs.Prelude.{ℕ, ◌+◌, ◌<◌, ◌≤◌, List, length, remove}
+use Rattle.term.specs.Words.{Word}
 use Rattle.clauses.specs.Clauses.{Covers}
 
 -- a clause is tidy if it covers none of what is left of it without one literal
 abbrev pub Tidy : List Word → Type 0
 Tidy C = (k : ℕ) → k < length C → Covers C (remove C k) → ⊥
+
+-- none of the first literals can be left out
+abbrev pub Needed : (hand : ℕ) → List Word → Type 0
+Needed hand C = (k : ℕ) → k < hand → k < length C → Covers C (remove C k) → ⊥
 
 -- Tidying goes from the first literal to the last. It drops the literal in hand when the literals still kept cover what
 -- is left of them without it. (The literal in hand stands at `hand`.)
@@ -13,10 +17,3 @@ pub data Tidies : (hand : ℕ) → List Word → List Word → Type 0 where
   done : {hand : ℕ} {C : List Word} → length C ≤ hand → Tidies hand C C
   drops : {hand : ℕ} {C R : List Word} → hand < length C → Covers C (remove C hand) → Tidies hand (remove C hand) R → Tidies hand C R
   keeps : {hand : ℕ} {C R : List Word} → hand < length C → (Covers C (remove C hand) → ⊥) → Tidies (hand + 1) C R → Tidies hand C R
-
--- a substitution that takes a clause into what is left of it without the literal in hand, that does no more when it is
--- done twice, and that leaves the literals before the one in hand
-pub record Retracts (hand : ℕ) (C : List Word) (ρ : ℕ → Word) : Type 0 where
-  pub into : All (λ l. Contains (remove C hand) (sub ρ l)) C
-  pub once : (l : Word) → Contains C l → sub ρ (sub ρ l) ≡ sub ρ l
-  pub fixed : (k : ℕ) → k < hand → sub ρ (get_or C k (var 0)) ≡ get_or C k (var 0)
