@@ -1,5 +1,5 @@
 -- Targets that are gone, and what is left without them.
-use Rattle.std.proofs.Common.{◌≡◌, ℕ, ◌+◌, ◌-◌, ◌*◌, ◌<◌, ◌≤◌, min, List, length, get_or, set, Some, None, Option, All, IfSome, MatchOption, sym, refl, ap, ap₂, ◌∙◌, subst, ⊎_elim, arith}
+use Rattle.std.proofs.Common.{◌≡◌, ℕ, zero, suc, ◌+◌, ◌-◌, ◌*◌, ◌<◌, ◌≤◌, min, List, length, get_or, set, Some, None, Option, All, IfSome, MatchOption, ◌⊎◌, inl, inr, sym, refl, ap, ap₂, ◌∙◌, subst, ⊎_elim, arith}
 use Rattle.std.specs.Int.{bit_at as bit}
 use Rattle.std.proofs.lemmas.Bool.{cases_eq, cases_lt}
 use Rattle.std.proofs.lemmas.List.{get_or-map, get_or-set_same, length-map, length-set}
@@ -10,10 +10,12 @@ use Rattle.term.specs.declared.node.Node.{Node}
 use Rattle.subsume.specs.declared.bits.BitSet.{BitSet}
 use Rattle.subsume.specs.declared.slot.Slot.{Slot}
 use Rattle.subsume.specs.Bits.{bit_at}
-use Rattle.subsume.specs.Choices.{left, row, pick, picked, Fewer, Removed, Pruned, Picked, Made, Clear, Avoids}
+use Rattle.subsume.specs.Choices.{left, row, pick, picked, Among, Fewer, Narrowed, Removed, Pruned, Picked, Made, Clear, Avoids}
 use Rattle.subsume.specs.Meeting.{place_of}
-use Rattle.subsume.specs.Solving.{TurnsAt, Works, Linked, Hopeful, Spared, SparedOutside}
+use Rattle.subsume.specs.Solving.{TurnsAt, Works, Linked, Hopeful, SparedHolding, SparedOutside}
 use Rattle.subsume.specs.FirstChoices.{Outside, ChoosesOutside}
+use Rattle.subsume.specs.Retracting.{Stays, Apart}
+use Rattle.subsume.proofs.Picking.{picked-fewer}
 use Rattle.subsume.proofs.Pruning.{row-set_same, row-set_other}
 use Rattle.subsume.proofs.Searching.{fits-works}
 use Rattle.subsume.proofs.Sets.{bit-below, bit-of_word, none-past, other-word}
@@ -74,6 +76,56 @@ module _ (gone : List ℕ) (before sets : List (BitSet 4)) (i : ℕ) where
         long = length-set sets i r ∙ c.long;
       }
 
+-- of the first i literals, those that begin at `start` are left the target j alone
+pub record Holding (m n : ℕ) (begins : ℕ → ℕ) (start j : ℕ) (before after : List (BitSet 4)) (i : ℕ) : Type 0 where
+  pub keeps : (f : ℕ → ℕ) → Among before m n f → ((k : ℕ) → k < m → begins k ≡ start → f k ≡ j) → Among after m n f
+  pub fewer : Fewer before after m n
+  pub long : length after ≡ length before
+
+module _ (m n : ℕ) (begins : ℕ → ℕ) (start j : ℕ) where
+  pub holding-none : (sets : List (BitSet 4)) (i : ℕ) → Holding m n begins start j sets sets i
+  holding-none sets i = record { keeps = λ f a h. a; fewer = λ k l h g e. e; long = refl }
+
+  pub holding-same : (before after : List (BitSet 4)) (i : ℕ) → Holding m n begins start j before after i → Holding m n begins start j before after (i + 1)
+  holding-same before after i h = record { keeps = h.keeps; fewer = h.fewer; long = h.long }
+
+  pub holding-more : (before sets : List (BitSet 4)) (i : ℕ) (r : BitSet 4) → i < m → i < length sets → begins i ≡ start → Holding m n begins start j before sets i
+      → Narrowed (row sets i) r.words j → Holding m n begins start j before (set sets i r) (i + 1)
+  holding-more before sets i r own inside here h w =
+      let same = row-set_same sets i r inside in
+      record {
+        keeps = λ f a stays k lt.
+            let b = h.keeps f a stays k lt in (
+              b.0,
+              ⊎_elim
+                  (λ (e : k ≡ i).
+                  let at : f k ≡ j = ap f e ∙ stays i own here in
+                  ap (λ (x : ℕ). left (set sets i r) x (f k)) e ∙ ap (left (set sets i r) i) at ∙ ap (λ ws. bit_at ws j) same ∙ w.here
+                  ∙ sym (ap (left sets i) at) ∙ sym (ap (λ (x : ℕ). left sets x (f k)) e) ∙ b.1)
+                  (λ e. ap (λ (ws : List ℕ). bit_at ws (f k)) (row-set_other sets i k r e) ∙ b.1)
+                  (cases_eq k i),
+            );
+        fewer = λ k l lt g e. h.fewer k l lt g (⊎_elim
+            (λ (s : k ≡ i).
+            let there : bit_at r.words l ≡ 1 = sym (ap (λ ws. bit_at ws l) same) ∙ sym (ap (λ (x : ℕ). left (set sets i r) x l) s) ∙ e in
+            let at : l ≡ j = w.only l there in
+            ap (λ (x : ℕ). left sets x l) s ∙ ap (left sets i) at ∙ sym w.here ∙ sym (ap (bit_at r.words) at) ∙ there)
+            (λ s. ap (λ (ws : List ℕ). bit_at ws l) (sym (row-set_other sets i k r s)) ∙ e)
+            (cases_eq k i));
+        long = length-set sets i r ∙ h.long;
+      }
+
+-- and what is pruned after that
+module _ (N : List Node) (S : List ℕ) (M : List Node) (T : List ℕ) (j : ℕ) (before mid after : List (BitSet 4)) (i : ℕ) (h : Holding (length S) (length T) (λ (k : ℕ). get_or S k 0) (get_or T j 0) j before mid i) where
+  pub held-picked : (picks : List (Option ℕ)) → Fewer mid after (length S) (length T) → Picked before (length S) (length T) picks → Picked after (length S) (length T) picks
+  held-picked picks f p = picked-fewer (length S) (length T) before after picks p (λ k l a b e. h.fewer k l a b (f k l a b e))
+
+  pub held-spared : {C : ℕ} (slots : List (Slot C)) → Linked N S M T slots → Pruned slots (length S) (length T) mid after → j < length T
+      → (kept : List ℕ) → bit_at kept j ≡ 1 → SparedHolding N S M T kept before → SparedHolding N S M T kept after
+  held-spared slots linked p inside kept own spared f within w holds =
+      p.keeps f (λ x. place_of M (w.0 x)) (fits-works N S M T slots f linked within w)
+      (h.keeps f (spared f within w holds) (λ k lt e. holds k j lt inside own e))
+
 -- what is left then
 module _ (N : List Node) (S : List ℕ) (M : List Node) (T : List ℕ) (gone : List ℕ) (before mid after : List (BitSet 4)) (i : ℕ) (all : length S ≤ i) (c : Cut gone before mid i) where
   fewer-cut : (k j : ℕ) → k < length S → j < length T → left mid k j ≡ 1 → (left before k j ≡ 1) × (bit_at gone j ≡ 0)
@@ -88,10 +140,11 @@ module _ (N : List Node) (S : List ℕ) (M : List Node) (T : List ℕ) (gone : L
     chosen = λ k h j e. let z : None ≡ Some j = sym (n k h) ∙ e in cc;
   }
 
-  pub cut-spared : {C : ℕ} (slots : List (Slot C)) → Linked N S M T slots → Pruned slots (length S) (length T) mid after → Spared N S M T before → SparedOutside N S M T gone after
-  cut-spared slots linked p spared f inside w =
+  pub cut-spared : {C : ℕ} (slots : List (Slot C)) → Linked N S M T slots → Pruned slots (length S) (length T) mid after
+      → (kept : List ℕ) → SparedHolding N S M T kept before → SparedOutside N S M T kept gone after
+  cut-spared slots linked p kept spared f inside w holds =
       p.keeps f (λ x. place_of M (w.0 x)) (fits-works N S M T slots f linked (λ k h. (inside k h).0) w)
-      (λ k h. let a = spared f (λ l g. (inside l g).0) w k h in (a.0, (c.done k (omega arith)).kept (f k) a.1 (inside k h).1))
+      (λ k h. let a = spared f (λ l g. (inside l g).0) w holds k h in (a.0, (c.done k (omega arith)).kept (f k) a.1 (inside k h).1))
 
 -- a choice of targets that are not gone, by the literals
 module _ (N : List Node) (S : List ℕ) (M : List Node) (T : List ℕ) (gone : List ℕ) where
@@ -122,18 +175,69 @@ module _ (N : List Node) (S : List ℕ) (M : List Node) (T : List ℕ) (gone : L
       let inside : t.0 < length T = omega (arith, length-map T (word_at M), t.1) in
       (t.0, inside, t.2, ap (sub θ) (sym same) ∙ sym t.3 ∙ get_or-map (word_at M) T t.0 0 (sub θ l) inside)
 
-  choice : (θ : ℕ → Word) → All (λ l. Outside gone other (sub θ l)) one → (i : ℕ) → (j : ℕ) × (i < length S → (j < length T) × (bit_at gone j ≡ 0) × TurnsAt N S M T θ i j)
-  choice θ c i = ⊎_elim (λ h. let t = target θ c i h in (t.0, λ _. (t.1, t.2, t.3))) (λ n. (0, λ h. absurd (omega (arith, n, h)))) (cases_lt i (length S))
+  module _ (same : N ≡ M) (kept : List ℕ) (apart : Apart kept gone other) (θ : ℕ → Word) (c : All (λ l. Outside gone other (sub θ l)) one) (stays : Stays kept other θ) where
+    -- a literal is held at a place
+    abbrev HeldAt : (i j : ℕ) → Type 0
+    HeldAt i j = (j < length T) × (bit_at kept j ≡ 1) × (get_or S i 0 ≡ get_or T j 0)
 
-  none-outside : (sets : List (BitSet 4)) → SparedOutside N S M T gone sets → (Hopeful N S M T sets → ⊥) → (θ : ℕ → Word) → All (λ l. Outside gone other (sub θ l)) one → ⊥
-  none-outside sets spared none θ c =
-      let f = λ (i : ℕ). (choice θ c i).0 in
-      let w : Works N S M T f = (θ, λ i h. ((choice θ c i).1 h).2) in
-      none (f, spared f (λ i h. (((choice θ c i).1 h).0, ((choice θ c i).1 h).1)) w, w)
+    word-there : (j : ℕ) → j < length T → get_or other j (var 0) ≡ word_at M (get_or T j 0)
+    word-there j h = get_or-map (word_at M) T j 0 (var 0) h
 
-  pub chosen-outside : (sets : List (BitSet 4)) (picks : List (Option ℕ)) (o : Option (List (Option ℕ))) → SparedOutside N S M T gone sets → Clear gone sets (length S) (length T) picks
+    held-turns : (i j : ℕ) → HeldAt i j → (bit_at gone j ≡ 0) × TurnsAt N S M T θ i j
+    held-turns i j h =
+        let long : j < length other = omega (arith, length-map T (word_at M), h.0) in
+        let w : word_at N (get_or S i 0) ≡ word_at M (get_or T j 0) = ap₂ word_at same h.2 in
+        (apart.here j long h.1, ap (sub θ) (w ∙ sym (word-there j h.0)) ∙ stays j long h.1 ∙ word-there j h.0)
+
+    held-once : (i j k : ℕ) → HeldAt i j → HeldAt i k → j ≡ k
+    held-once i j k a b =
+        apart.once j k (omega (arith, length-map T (word_at M), a.0)) (omega (arith, length-map T (word_at M), b.0)) a.1 b.1
+        (word-there j a.0 ∙ ap (word_at M) (sym a.2 ∙ b.2) ∙ sym (word-there k b.0))
+
+    -- one of the first n places where it is held, if there is one
+    held : (i n : ℕ) → ((j : ℕ) × HeldAt i j) ⊎ ((j : ℕ) → j < n → HeldAt i j → ⊥)
+    held i zero = inr (λ j lt. absurd (omega arith))
+    held i (suc n) = elim (held i n) [
+      | inl r ↦ inl r
+      | inr none ↦
+          elim (cases_lt n (length T)) [
+            | inr past ↦ inr (λ j lt h. none j (omega (arith, h.0, past)) h)
+            | inl inside ↦
+                elim (cases_eq (bit_at kept n) 1) [
+                  | inr q ↦ inr (λ j lt h. elim (cases_eq j n) [ inl e ↦ q (sym (ap (bit_at kept) e) ∙ h.1) | inr e ↦ none j (omega arith) h ])
+                  | inl own ↦
+                      elim (cases_eq (get_or S i 0) (get_or T n 0)) [
+                        | inl e ↦ inl (n, (inside, own, e))
+                        | inr q ↦ inr (λ j lt h. elim (cases_eq j n) [ inl e ↦ q (h.2 ∙ ap (λ k. get_or T k 0) e) | inr e ↦ none j (omega arith) h ])
+                      ]
+                ]
+          ]
+    ]
+
+    -- for each literal the place where it is held, or else one outside where it stands once it is turned
+    abbrev Choice : (i j : ℕ) → Type 0
+    Choice i j = (i < length S → (j < length T) × (bit_at gone j ≡ 0) × TurnsAt N S M T θ i j) × ((k : ℕ) → HeldAt i k → j ≡ k)
+
+    choice : (i : ℕ) → (j : ℕ) × Choice i j
+    choice i = elim (held i (length T)) [
+      | inl r ↦ (r.0, (λ h. let t = held-turns i r.0 r.1 in (r.1.0, t.0, t.1), λ k. held-once i r.0 k r.1))
+      | inr none ↦
+          elim (cases_lt i (length S)) [
+            | inl h ↦ (let t = target θ c i h in (t.0, (λ _. (t.1, t.2, t.3), λ k h. absurd (none k h.0 h))))
+            | inr n ↦ (0, (λ h. absurd (omega (arith, n, h)), λ k h. absurd (none k h.0 h)))
+          ]
+    ]
+
+    none-outside : (sets : List (BitSet 4)) → SparedOutside N S M T kept gone sets → (Hopeful N S M T sets → ⊥) → ⊥
+    none-outside sets spared none =
+        let f = λ (i : ℕ). (choice i).0 in
+        let w : Works N S M T f = (θ, λ i h. ((choice i).1.0 h).2) in
+        none (f, spared f (λ i h. (((choice i).1.0 h).0, ((choice i).1.0 h).1)) w (λ i j h g own e. (choice i).1.1 j (g, own, e)), w)
+
+  pub chosen-outside : (sets : List (BitSet 4)) (picks : List (Option ℕ)) (o : Option (List (Option ℕ))) → N ≡ M
+      → (kept : List ℕ) → SparedOutside N S M T kept gone sets → Apart kept gone other → Clear gone sets (length S) (length T) picks
       → IfSome o (λ made. Made made (length S) (length T) × Works N S M T (picked made))
       → ((g : List ℕ) → Clear g sets (length S) (length T) picks → IfSome o (λ made. Avoids g (length S) made)) → (o ≡ None → Hopeful N S M T sets → ⊥)
-      → MatchOption o ((θ : ℕ → Word) → All (λ l. Outside gone other (sub θ l)) one → ⊥) (λ made. ChoosesOutside gone one other (picked made))
-  chosen-outside sets picks (Some made) spared clear h out none = found-outside made h.0 h.1 (out gone clear)
-  chosen-outside sets picks None spared clear h out none = none-outside sets spared (none refl)
+      → MatchOption o ((θ : ℕ → Word) → All (λ l. Outside gone other (sub θ l)) one → Stays kept other θ → ⊥) (λ made. ChoosesOutside gone one other (picked made))
+  chosen-outside sets picks (Some made) same kept spared apart clear h out none = found-outside made h.0 h.1 (out gone clear)
+  chosen-outside sets picks None same kept spared apart clear h out none = λ θ c stays. none-outside same kept apart θ c stays sets spared (none refl)

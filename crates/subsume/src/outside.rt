@@ -1,14 +1,17 @@
-// Choices that take none of some targets: those that are gone.
-ghost use Rattle.std.specs.Prelude.{◌≡◌, ℕ, ◌-◌, ◌<◌, ◌≤◌, min, None, length, All, MatchOption};
+// Choices that take none of some targets: those that are gone; and literals that are held where they are.
+ghost use Rattle.std.specs.Prelude.{◌≡◌, ℕ, List, ◌-◌, ◌<◌, ◌≤◌, min, None, length, All, MatchOption};
 ghost use Rattle.std.specs.Int.{bit_at as bit};
+ghost use Rattle.subsume.specs.Bits.{bit_at};
 ghost use Rattle.subsume.specs.Choices.{Removed, Picked, Clear, pick, picked};
 ghost use Rattle.clauses.specs.Clauses.{literals_at};
 ghost use Rattle.term.specs.Matched.{Below};
 ghost use Rattle.term.specs.Words.{Word, sub};
 ghost use Rattle.subsume.specs.FirstChoices.{Outside, ChoosesOutside};
-ghost use Rattle.subsume.specs.Solving.{Spared, SparedOutside};
+ghost use Rattle.subsume.specs.Retracting.{Stays, Apart};
+ghost use Rattle.subsume.specs.Solving.{SparedHolding, SparedOutside};
 
 use super::bits::BitSet;
+use super::search::narrow;
 use super::state::State;
 use super::table::Table;
 
@@ -29,14 +32,31 @@ fn minus(word: u64, other: u64) -> u64
 }
 
 impl<const N: usize, const W: usize> Table<'_, N, W> {
+    // Leaves to the literal that begins where the target `j` does no other target.
+    pub fn hold(&self, state: &mut State<N>, j: usize)
+        requires target { j < length self.now.targets.starts.now }
+        requires picked { Picked state.old.sets (length self.now.literals.starts.now) (length self.now.targets.starts.now) state.old.picks }
+        ensures picked { Picked state.new.sets (length self.now.literals.starts.now) (length self.now.targets.starts.now) state.new.picks }
+        ensures picks { state.new.picks ≡ state.old.picks }
+        ensures spared { (kept : List ℕ) → bit_at kept j ≡ 1 → SparedHolding self.now.literals.nodes.now self.now.literals.starts.now self.now.targets.nodes.now self.now.targets.starts.now kept state.old.sets → SparedHolding self.now.literals.nodes.now self.now.literals.starts.now self.now.targets.nodes.now self.now.targets.starts.now kept state.new.sets }
+    {
+        let mut queue = BitSet::<W>::new();
+        for i in 0..self.literals.len() {
+            if self.literals.starts[i] == self.targets.starts[j] {
+                narrow(&mut state.sets[i], j);
+                self.enqueue(i, &mut queue);
+            }
+        }
+        self.prune(&mut state.sets, queue);
+    }
+
     // The state before a choice is made, without the targets that are gone.
     fn without(&self, start: &State<N>, gone: &BitSet<4>) -> State<N>
         requires picked { Picked start.now.sets (length self.now.literals.starts.now) (length self.now.targets.starts.now) start.now.picks }
         requires none { (i : ℕ) → i < length self.now.literals.starts.now → pick start.now.picks i ≡ None }
-        requires spared { Spared self.now.literals.nodes.now self.now.literals.starts.now self.now.targets.nodes.now self.now.targets.starts.now start.now.sets }
         ensures picked { Picked result.sets (length self.now.literals.starts.now) (length self.now.targets.starts.now) result.picks }
         ensures clear { Clear gone.now.words result.sets (length self.now.literals.starts.now) (length self.now.targets.starts.now) result.picks }
-        ensures spared { SparedOutside self.now.literals.nodes.now self.now.literals.starts.now self.now.targets.nodes.now self.now.targets.starts.now gone.now.words result.sets }
+        ensures spared { (kept : List ℕ) → SparedHolding self.now.literals.nodes.now self.now.literals.starts.now self.now.targets.nodes.now self.now.targets.starts.now kept start.now.sets → SparedOutside self.now.literals.nodes.now self.now.literals.starts.now self.now.targets.nodes.now self.now.targets.starts.now kept gone.now.words result.sets }
     {
         let mut sets = start.sets;
         let mut queue = BitSet::<W>::new();
@@ -51,18 +71,60 @@ impl<const N: usize, const W: usize> Table<'_, N, W> {
         }
     }
 
-    // A choice that works, of targets that are not gone; or none, where there is no such choice.
+    // A choice that works, of targets that are not gone; or none, where there is no such choice that leaves the literals where
+    // they are that are held in the state. The search begins with the literals in `first`.
     pub fn choose_outside<const V: usize>(
         &self,
         start: &State<N>,
         gone: &BitSet<4>,
+        first: &BitSet<4>,
     ) -> Option<[Option<u16>; N]>
+        requires same { self.now.literals.nodes.now ≡ self.now.targets.nodes.now }
         requires variables { Below V self.now.literals.nodes.now × (V ≤ 65536) }
         requires picked { Picked start.now.sets (length self.now.literals.starts.now) (length self.now.targets.starts.now) start.now.picks }
         requires none { (i : ℕ) → i < length self.now.literals.starts.now → pick start.now.picks i ≡ None }
-        requires spared { Spared self.now.literals.nodes.now self.now.literals.starts.now self.now.targets.nodes.now self.now.targets.starts.now start.now.sets }
-        ensures { MatchOption result ((θ : ℕ → Word) → All (λ l. Outside gone.now.words (literals_at self.now.targets.nodes.now self.now.targets.starts.now) (sub θ l)) (literals_at self.now.literals.nodes.now self.now.literals.starts.now) → ⊥) (λ picks. ChoosesOutside gone.now.words (literals_at self.now.literals.nodes.now self.now.literals.starts.now) (literals_at self.now.targets.nodes.now self.now.targets.starts.now) (picked picks)) }
+        ensures { (kept : List ℕ) → SparedHolding self.now.literals.nodes.now self.now.literals.starts.now self.now.targets.nodes.now self.now.targets.starts.now kept start.now.sets → Apart kept gone.now.words (literals_at self.now.targets.nodes.now self.now.targets.starts.now) → MatchOption result ((θ : ℕ → Word) → All (λ l. Outside gone.now.words (literals_at self.now.targets.nodes.now self.now.targets.starts.now) (sub θ l)) (literals_at self.now.literals.nodes.now self.now.literals.starts.now) → Stays kept (literals_at self.now.targets.nodes.now self.now.targets.starts.now) θ → ⊥) (λ picks. ChoosesOutside gone.now.words (literals_at self.now.literals.nodes.now self.now.literals.starts.now) (literals_at self.now.targets.nodes.now self.now.targets.starts.now) (picked picks)) }
     {
-        self.search::<V>(self.without(start, gone))
+        self.search::<V>(self.without(start, gone), first)
+    }
+
+    // The literals that hang together with literal `i` by variables that they share. It is for the order of the search,
+    // and no promise rests on it.
+    pub fn part(&self, i: usize) -> BitSet<4> {
+        let mut part = BitSet::<4>::new();
+        let mut queue = BitSet::<4>::new();
+        if i < 256 {
+            queue.include(i);
+        }
+        for _ in 0..self.literals.len() {
+            let Some(k) = queue.pop() else {
+                break;
+            };
+            part.include(k);
+            self.enqueue_beside(k, &part, &mut queue);
+        }
+        part
+    }
+
+    // Puts the literals that share a variable with literal `k` into the queue, but those that are done.
+    fn enqueue_beside(&self, k: usize, done: &BitSet<4>, queue: &mut BitSet<4>) {
+        let first = self.first.get(k).copied().unwrap_or(0);
+        for slot in self.slots.iter().skip(first) {
+            if slot.literal as usize != k {
+                break;
+            }
+            let x = slot.variable as usize;
+            let mut at = self.last.get(x).copied().flatten();
+            for _ in 0..self.slots.len() {
+                let Some(beside) = self.slot(at, x) else {
+                    break;
+                };
+                let l = beside.literal as usize;
+                if l < 256 && !done.test(l) {
+                    queue.include(l);
+                }
+                at = beside.before;
+            }
+        }
     }
 }

@@ -87,7 +87,7 @@ fn sift_word<const W: usize>(word: u64, labels: &[u16], marks: &BitSet<W>) -> u6
 
 impl<const N: usize, const W: usize> Table<'_, N, W> {
     // The slot at a place of the table, if it is one of the variable `x`.
-    fn slot(&self, at: Option<u16>, x: usize) -> Option<&Slot<N>>
+    pub(super) fn slot(&self, at: Option<u16>, x: usize) -> Option<&Slot<N>>
         ensures { Standing self.now.slots.now (λ slot. slot.variable ≡ x) (option_copied result) }
     {
         let slot = self.slots.get(at? as usize)?;

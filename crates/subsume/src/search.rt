@@ -10,7 +10,7 @@ use super::state::State;
 use super::table::Table;
 
 // Leaves only the target `j`, if it was left.
-fn narrow(left: &mut BitSet<4>, j: usize)
+pub(super) fn narrow(left: &mut BitSet<4>, j: usize)
     requires { j < 256 }
     ensures { Narrowed left.old.words left.new.words j }
 {
@@ -38,6 +38,12 @@ fn turn(first: &BitSet<4>, n: usize, k: usize) -> Option<usize>
     } else {
         (!first.test(k - n)).then_some(k - n)
     }
+}
+
+// By what the search orders the literals: those in `first` come first, and of them those with the fewest targets left.
+fn rank(first: &BitSet<4>, sets: &[BitSet<4>], i: usize) -> (bool, u32) {
+    let later = i >= 256 || !first.test(i);
+    (later, sets.get(i).map_or(0, |left| left.count()))
 }
 
 impl<const N: usize, const W: usize> Table<'_, N, W> {
@@ -84,15 +90,15 @@ impl<const N: usize, const W: usize> Table<'_, N, W> {
             .any(|left| left.is_empty())
     }
 
-    // The literal with the fewest targets left, of those whose choice is still to be made.
-    fn choose(&self, state: &State<N>) -> Option<usize>
+    // The literal with the fewest targets left, of those whose choice is still to be made; those in `first` come first.
+    fn choose(&self, state: &State<N>, first: &BitSet<4>) -> Option<usize>
         ensures { Chosen result (length self.now.literals.starts.now) state.now.picks }
     {
         state.picks[..self.literals.len()]
             .iter()
             .enumerate()
             .filter(|(_, pick)| pick.is_none())
-            .min_by_key(|(i, _)| state.sets[*i].count())
+            .min_by_key(|(i, _)| rank(first, &state.sets, *i))
             .map(|(i, _)| i)
     }
 
@@ -117,11 +123,15 @@ impl<const N: usize, const W: usize> Table<'_, N, W> {
         ensures found { result ≡ true → Solved self.now.literals.nodes.now self.now.literals.starts.now self.now.targets.nodes.now self.now.targets.starts.now }
         ensures none { result ≡ false → Hopeful self.now.literals.nodes.now self.now.literals.starts.now self.now.targets.nodes.now self.now.targets.starts.now state.entry.sets → ⊥ }
     {
-        self.search::<V>(state).is_some()
+        self.search::<V>(state, &BitSet::<4>::new()).is_some()
     }
 
-    // A choice that works; or none, where none works whose targets are left.
-    pub(super) fn search<const V: usize>(&self, mut state: State<N>) -> Option<[Option<u16>; N]>
+    // A choice that works; or none, where none works whose targets are left. The literals in `first` are chosen for first.
+    pub(super) fn search<const V: usize>(
+        &self,
+        mut state: State<N>,
+        first: &BitSet<4>,
+    ) -> Option<[Option<u16>; N]>
         requires variables { Below V self.now.literals.nodes.now × (V ≤ 65536) }
         requires picked { Picked state.sets (length self.now.literals.starts.now) (length self.now.targets.starts.now) state.picks }
         ensures found { IfSome result (λ picks. Made picks (length self.now.literals.starts.now) (length self.now.targets.starts.now) × Works self.now.literals.nodes.now self.now.literals.starts.now self.now.targets.nodes.now self.now.targets.starts.now (picked picks)) }
@@ -132,7 +142,7 @@ impl<const N: usize, const W: usize> Table<'_, N, W> {
             return None;
         }
         self.settle(&mut state);
-        let Some(i) = self.choose(&state) else {
+        let Some(i) = self.choose(&state, first) else {
             if check::<V>(self.literals, self.targets, &state.picks) {
                 return Some(state.picks);
             }
@@ -146,7 +156,7 @@ impl<const N: usize, const W: usize> Table<'_, N, W> {
                 continue;
             };
             if state.sets[i].test(j) {
-                if let Some(picks) = self.search::<V>(self.take(&state, i, j)) {
+                if let Some(picks) = self.search::<V>(self.take(&state, i, j), first) {
                     return Some(picks);
                 }
             }
