@@ -1,14 +1,18 @@
 -- The steps of tidying: a literal is dropped, or it is kept.
 use Rattle.std.proofs.Common.{◌≡◌, ◌≢◌, ℕ, suc, ◌+◌, ◌-◌, ◌<◌, List, [], ◌∷◌, ◌++◌, length, drop, get_or, remove, Contains, inl, inr, sym, refl, ap, ap₂, ◌∙◌, subst, append_assoc, arith, length-append}
-use Rattle.std.proofs.lemmas.Bool.{cases_lt}
-use Rattle.std.proofs.lemmas.List.{take_at, drop_at, drop_more, length-drop, length_push, get_or-drop, get_or_default}
+use Rattle.std.proofs.lemmas.Bool.{cases_lt, cases_eq}
+use Rattle.std.proofs.Math.Seq.{get_or-append_seam}
+use Rattle.std.proofs.lemmas.List.{get_or_append_left, take_at, drop_at, drop_more, length-drop, length_push, get_or-drop, get_or_default}
 use Rattle.std.proofs.lemmas.List.Elements.{Contains-append_left, Contains-append_right, Contains-append_cases, Contains-push, Contains-push_cases}
 use Rattle.term.specs.Words.{Word, var}
 use Rattle.clauses.specs.Clauses.{Covers}
-use Rattle.clauses.specs.Reduction.{drops, keeps}
-use Rattle.clauses.proofs.Reductions.{after-drop, after-keep}
+use Rattle.clauses.specs.Reduction.{Needed, drops, keeps}
+use Rattle.clauses.proofs.Coverings.{covers-through}
+use Rattle.clauses.proofs.Reductions.{needed-removed, needed-kept, after-drop, after-keep}
+use Rattle.clauses.proofs.Retractions.{needed-once}
 use Rattle.subsume.specs.Bits.{bit_at}
 use Rattle.subsume.specs.FirstChoices.{Outside}
+use Rattle.subsume.specs.Retracting.{Apart}
 use Rattle.reduction.specs.Progress.{Progress}
 
 module _ (C : List Word) (i : ℕ) (kept : List Word) (lt : i < length C) where
@@ -35,21 +39,48 @@ module _ (C : List Word) (i : ℕ) (kept : List Word) (lt : i < length C) where
       (ap (drop (suc (length kept))) (sym pushed)
       ∙ drop_at (kept ++ literal ∷ []) (drop (i + 1) C) (suc (length kept)) (omega (arith, length_push kept literal)))
 
-  room : length kept < length hand
+  pub room : length kept < length hand
   room = omega (arith, length-append kept (drop i C), length-drop i C)
 
   pub hand-pushed : (kept ++ literal ∷ []) ++ drop (i + 1) C ≡ hand
   hand-pushed = pushed ∙ sym hand-is
 
-  module _ (gone : List ℕ) (p : Progress C i kept gone) where
-    pub keep-step : (after : List ℕ) → ((j : ℕ) → bit_at after j ≡ bit_at gone j) → (Covers hand rest → ⊥) → Progress C (i + 1) (kept ++ literal ∷ []) after
-    keep-step after same n =
-        let held : Covers hand (remove hand (length kept)) → ⊥ = λ c. n (subst (Covers hand) removed c) in
+  module _ (held gone : List ℕ) (p : Progress C i kept held gone) where
+    -- what is held stands among the kept
+    pub held-kept : (j : ℕ) → bit_at held j ≡ 1 → (q : ℕ) × (q < length kept) × (get_or hand q (var 0) ≡ get_or C j (var 0))
+    held-kept j b =
+        let h = p.before j b in
+        let c = p.early j (var 0) h (p.apart.here j (omega (arith, h, lt)) b) in
+        (c.0, c.1, get_or_append_left kept (drop i C) (var 0) c.0 c.1 ∙ get_or_default kept c.0 (var 0) (get_or C j (var 0)) c.1 ∙ c.2)
+
+    -- what is in hand are literals of the clause
+    pub hand-inside : (w : Word) → Contains hand w → Contains C w
+    hand-inside w c = elim (Contains-append_cases kept (drop i C) w c) [
+      | inl k ↦ (let s = p.stays w k in (s.0, omega (arith, s.1, lt), s.3))
+      | inr k ↦ (let n = length-drop i C in (i + k.0, omega (arith, n, k.1), sym (get_or-drop i C k.0 w) ∙ k.2))
+    ]
+
+    at-hand : get_or hand (length kept) (var 0) ≡ literal
+    at-hand = ap (λ (l : List Word). get_or l (length kept) (var 0)) hand-is ∙ get_or-append_seam kept literal (drop (i + 1) C) (var 0)
+
+    pub keep-step : (held' after : List ℕ) → ((j : ℕ) → bit_at after j ≡ bit_at gone j) → ((j : ℕ) → (j ≢ i) → bit_at held' j ≡ bit_at held j) → (Covers hand rest → ⊥)
+        → Progress C (i + 1) (kept ++ literal ∷ []) held' after
+    keep-step held' after same others n =
+        let no : Covers hand (remove hand (length kept)) → ⊥ = λ c. n (subst (Covers hand) removed c) in
         let long : length (kept ++ literal ∷ []) ≡ length kept + 1 = length_push kept literal in
+        let firm : Needed (length kept + 1) hand = needed-kept (length kept) hand no p.needed in
+        let other : (j : ℕ) → bit_at held' j ≡ 1 → get_or C j (var 0) ≡ literal → j ≡ i =
+        λ j b e. elim (cases_eq j i) [
+          | inl s ↦ s
+          | inr s ↦
+              (let k = held-kept j (sym (others j s) ∙ b) in
+              let z = needed-once (length kept + 1) hand firm k.0 (length kept) (omega (arith, k.1)) (omega (arith, k.1, room)) room (k.2 ∙ e ∙ sym at-hand) in
+              absurd (omega (arith, z, k.1)))
+        ] in
         record {
           within = omega arith;
-          forth = λ R t. p.forth R (keeps room held (rw (long, hand-pushed) at t));
-          back = λ R t. rw (long, hand-pushed) (after-keep (p.back R t) room held);
+          forth = λ R t. p.forth R (keeps room no (rw (long, hand-pushed) at t));
+          back = λ R t. rw (long, hand-pushed) (after-keep (p.back R t) room no);
           early = λ j d l b. elim (cases_lt j i) [
             | inl k ↦ Contains-append_left kept (literal ∷ []) (get_or C j d) (p.early j d k (sym (same j) ∙ b))
             | inr k ↦ (let e : j ≡ i = omega arith in subst (λ w. Contains (kept ++ literal ∷ []) w) (read d j e) (Contains-push kept literal))
@@ -59,13 +90,38 @@ module _ (C : List Word) (i : ℕ) (kept : List Word) (lt : i < length C) where
             | inr e ↦ (i, omega arith, same i ∙ p.late i (omega arith), sym (read w i refl) ∙ e)
           ];
           late = λ j l. same j ∙ p.late j (omega arith);
+          covered = subst (Covers C) (sym hand-pushed) p.covered;
+          needed = rw (long, hand-pushed) firm;
+          before = λ j b. elim (cases_eq j i) [
+            | inl s ↦ omega arith
+            | inr s ↦ (let h = p.before j (sym (others j s) ∙ b) in omega (arith, h))
+          ];
+          apart = record {
+            here = λ j l b. elim (cases_eq j i) [
+              | inl s ↦ same j ∙ p.late j (omega (arith, s))
+              | inr s ↦ same j ∙ p.apart.here j l (sym (others j s) ∙ b)
+            ];
+            once = λ j k l m b d e. elim (cases_eq j i) [
+              | inl s ↦ s ∙ sym (other k d (sym e ∙ ap (λ x. get_or C x (var 0)) s))
+              | inr s ↦ elim (cases_eq k i) [
+                | inl z ↦ other j b (e ∙ ap (λ x. get_or C x (var 0)) z) ∙ sym z
+                | inr z ↦ p.apart.once j k l m (sym (others j s) ∙ b) (sym (others k z) ∙ d) e
+              ]
+            ];
+          };
         }
       where
         read : (d : Word) (j : ℕ) → j ≡ i → literal ≡ get_or C j d
         read d j e = get_or_default C i (var 0) d lt ∙ ap (λ k. get_or C k d) (sym e)
 
     module _ (after : List ℕ) (here : bit_at after i ≡ 1) (others : (j : ℕ) → (j ≢ i) → bit_at after j ≡ bit_at gone j) where
-      pub drop-step : Covers hand rest → Progress C (i + 1) kept after
+      pub apart-after : Apart held after C
+      apart-after = record {
+        here = λ j l b. let h = p.before j b in others j (λ q. omega (arith, q, h)) ∙ p.apart.here j l b;
+        once = p.apart.once;
+      }
+
+      pub drop-step : Covers hand rest → Progress C (i + 1) kept held after
       drop-step c =
           let d : Covers hand (remove hand (length kept)) = subst (Covers hand) (sym removed) c in
           record {
@@ -78,6 +134,10 @@ module _ (C : List Word) (i : ℕ) (kept : List Word) (lt : i < length C) where
             ];
             stays = λ w k. let s = p.stays w k in let l = s.1 in (s.0, omega arith, others s.0 (λ q. omega arith) ∙ s.2, s.3);
             late = λ j l. others j (λ q. omega arith) ∙ p.late j (omega arith);
+            covered = covers-through C hand rest p.covered c;
+            needed = subst (Needed (length kept)) removed (needed-removed (length kept) hand room d p.needed);
+            before = λ j b. let h = p.before j b in omega (arith, h);
+            apart = apart-after;
           }
 
       -- what is left without the literal in hand are the literals that are not gone then

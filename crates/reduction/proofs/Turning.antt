@@ -9,12 +9,15 @@ use Rattle.clauses.specs.Clauses.{Covers, literals_at}
 use Rattle.clauses.proofs.Reductions.{tidies-front}
 use Rattle.subsume.specs.Bits.{bit_at}
 use Rattle.subsume.specs.FirstChoices.{Outside, ChoosesOutside}
+use Rattle.subsume.specs.Retracting.{Stays, Retracts, Apart}
+use Rattle.subsume.specs.Solving.{SparedHolding}
+use Rattle.subsume.specs.declared.bits.BitSet.{BitSet}
 use Rattle.reduction.specs.Progress.{Progress, Image}
 use Rattle.reduction.specs.Tidyings.{Taken, TooMany}
-use Rattle.reduction.proofs.Steps.{literal, hand-pushed, keep-step, drop-step}
-use Rattle.reduction.proofs.Images.{free-drops, free-image, needed-stays, spare-drops, spare-image}
+use Rattle.reduction.proofs.Steps.{literal, hand-pushed, keep-step, apart-after, drop-step}
+use Rattle.reduction.proofs.Images.{free-drops, free-image, needed-stays, image-outside, spare-drops, spare-image}
 
-module _ (nodes : List Node) (S : List ℕ) (starts : List ℕ) (i : ℕ) (h : i < length S) (gone mapped : List ℕ) (I : List Word) where
+module _ (nodes : List Node) (S : List ℕ) (starts : List ℕ) (i : ℕ) (h : i < length S) (held gone mapped : List ℕ) (I : List Word) where
   abbrev C : List Word
   C = literals_at nodes S
 
@@ -24,36 +27,44 @@ module _ (nodes : List Node) (S : List ℕ) (starts : List ℕ) (i : ℕ) (h : i
   lt : i < length C
   lt = omega (arith, length-map S (word_at nodes), h)
 
-  module _ (p : Progress C i kept gone) (m : Image C (kept ++ drop i C) mapped gone I) (after : List ℕ) (here : bit_at after i ≡ 1) (others : (j : ℕ) → (j ≢ i) → bit_at after j ≡ bit_at gone j) where
+  module _ (p : Progress C i kept held gone) (m : Image C (kept ++ drop i C) mapped gone I) (after : List ℕ) (here : bit_at after i ≡ 1) (others : (j : ℕ) → (j ≢ i) → bit_at after j ≡ bit_at gone j) where
     -- a literal into which none was turned is dropped
-    pub free-progress : bit_at mapped i ≡ 0 → Progress C (i + 1) kept after
-    free-progress n = drop-step C i kept lt gone p after here others (free-drops C i kept lt gone p mapped I m after here others n)
+    pub free-progress : bit_at mapped i ≡ 0 → Progress C (i + 1) kept held after
+    free-progress n = drop-step C i kept lt held gone p after here others (free-drops C i kept lt held gone p mapped I m after here others n)
 
     pub free-stays : bit_at mapped i ≡ 0 → Image C (kept ++ drop (i + 1) C) mapped after I
-    free-stays n = free-image C i kept lt gone p mapped I m after here others n
+    free-stays n = free-image C i kept lt held gone p mapped I m after here others n
 
     -- a literal without which some choice works is dropped
-    pub spare-progress : (choice : ℕ → ℕ) → ChoosesOutside after I C choice → Progress C (i + 1) kept after
-    spare-progress choice c = drop-step C i kept lt gone p after here others (spare-drops C i kept lt gone p mapped I m after here others choice c)
+    pub spare-progress : (choice : ℕ → ℕ) → ChoosesOutside after I C choice → Progress C (i + 1) kept held after
+    spare-progress choice c = drop-step C i kept lt held gone p after here others (spare-drops C i kept lt held gone p mapped I m after here others choice c)
 
     pub spare-next : (choice : ℕ → ℕ) → ChoosesOutside after I C choice → (next : List ℕ) (J : List Word) → Taken C (length I) choice next J → Image C (kept ++ drop (i + 1) C) next after J
-    spare-next choice c next J t = spare-image C i kept lt gone p mapped I m after here others choice c next J t.all t.only
+    spare-next choice c next J t = spare-image C i kept lt held gone p mapped I m after here others choice c next J t.all t.only
+
+    -- where no choice is left that leaves alone what is held, no retraction is
+    pub none-left : ((θ : ℕ → Word) → All (λ l. Outside after C (sub θ l)) I → Stays held C θ → ⊥) → (θ : ℕ → Word) → Retracts held after C θ → ⊥
+    none-left none θ r = none θ (image-outside C i kept lt held gone p mapped I m after here others θ r) r.stays
+
+    pub apart : Apart held after C
+    apart = apart-after C i kept lt held gone p after here others
 
     -- and any other is kept
-    module _ (back : List ℕ) (out : bit_at back i ≡ 0) (same : (j : ℕ) → (j ≢ i) → bit_at back j ≡ bit_at after j) (none : (θ : ℕ → Word) → All (λ l. Outside after C (sub θ l)) I → ⊥) where
+    module _ (back held' : List ℕ) (out : bit_at back i ≡ 0) (same : (j : ℕ) → (j ≢ i) → bit_at back j ≡ bit_at after j)
+        (free : (j : ℕ) → (j ≢ i) → bit_at held' j ≡ bit_at held j) (none : (θ : ℕ → Word) → Retracts held after C θ → ⊥) where
       bits : (j : ℕ) → bit_at back j ≡ bit_at gone j
       bits j = ⊎_elim
           (λ (e : j ≡ i). ap (bit_at back) e ∙ out ∙ sym (p.late i (omega arith)) ∙ ap (bit_at gone) (sym e))
           (λ n. same j n ∙ others j n) (cases_eq j i)
 
-      needed-progress : Progress C (i + 1) (kept ++ literal C i kept lt ∷ []) back
-      needed-progress = keep-step C i kept lt gone p back bits (needed-stays C i kept lt gone p mapped I m after here others none)
+      needed-progress : Progress C (i + 1) (kept ++ literal C i kept lt ∷ []) held' back
+      needed-progress = keep-step C i kept lt held gone p held' back bits free (needed-stays C i kept lt held gone p mapped I m after here others none)
 
       more : kept ++ literal C i kept lt ∷ [] ≡ literals_at nodes (starts ++ get_or S i 0 ∷ [])
       more = ap (λ (w : Word). kept ++ w ∷ []) (get_or-map (word_at nodes) S i 0 (var 0) h) ∙ sym (map-append (word_at nodes) starts (get_or S i 0 ∷ []))
 
-      pub needed-more : Progress C (i + 1) (literals_at nodes (starts ++ get_or S i 0 ∷ [])) back
-      needed-more = subst (λ (l : List Word). Progress C (i + 1) l back) more needed-progress
+      pub needed-more : Progress C (i + 1) (literals_at nodes (starts ++ get_or S i 0 ∷ [])) held' back
+      needed-more = subst (λ (l : List Word). Progress C (i + 1) l held' back) more needed-progress
 
       pub needed-image : Image C (literals_at nodes (starts ++ get_or S i 0 ∷ []) ++ drop (i + 1) C) mapped back I
       needed-image =
@@ -72,3 +83,11 @@ module _ (nodes : List Node) (S : List ℕ) (starts : List ℕ) (i : ℕ) (h : i
           let long : length K ≡ 17 = omega (arith, length_push kept (literal C i kept lt), length-map starts (word_at nodes), full) in
           let front = tidies-front (P.back R t) (omega (arith, length-append K (drop (i + 1) C))) in
           omega (arith, ap length front, long, length-take (length K) R, length-take (length K) (K ++ drop (i + 1) C), length-append K (drop (i + 1) C))
+
+-- where more is held, no fewer choices are left
+pub still-spared : (N : List Node) (S : List ℕ) (M : List Node) (T : List ℕ) (sets : List (BitSet 4)) (held wider : List ℕ)
+    → ((j : ℕ) → bit_at held j ≡ 1 → bit_at wider j ≡ 1) → SparedHolding N S M T held sets → SparedHolding N S M T wider sets
+still-spared N S M T sets held wider keeps spared f within w holds = spared f within w (λ i j h g b. holds i j h g (keeps j b))
+
+pub still-held : (held wider : List ℕ) (i : ℕ) → bit_at wider i ≡ 1 → ((j : ℕ) → (j ≢ i) → bit_at wider j ≡ bit_at held j) → (j : ℕ) → bit_at held j ≡ 1 → bit_at wider j ≡ 1
+still-held held wider i here others j b = ⊎_elim (λ (e : j ≡ i). ap (bit_at wider) e ∙ here) (λ n. others j n ∙ b) (cases_eq j i)

@@ -28,7 +28,7 @@ in_hand nodes C i d = kept nodes d ++ drop i C
 
 -- the literals before i have had their turn, and the clause in hand was last turned into I
 pub record Standing (nodes : List Node) (C : List Word) (mapped : List ℕ) (I : List Word) (i : ℕ) (d : Decided) : Type 0 where
-  pub progress : Progress C i (kept nodes d) d.gone.words
+  pub progress : Progress C i (kept nodes d) d.held.words d.gone.words
   pub image : Image C (in_hand nodes C i d) mapped d.gone.words I
 
 -- J has just the literals of C that the first n choices take, at places in the set
@@ -41,21 +41,21 @@ abbrev pub TooMany : List Word → Type 0
 TooMany C = (R : List Word) → Tidies 0 C R → 16 < length R
 
 -- after the turn of literal i
-abbrev pub Turned : List Node → (C : List Word) → (mapped : List ℕ) → (I : List Word) → (i : ℕ) → Turn → Decided → Type 0
+abbrev pub Turned : List Node → (C : List Word) → (mapped : List ℕ) → (I : List Word) → (i : ℕ) → {N : ℕ} → Turn N → Decided → Type 0
 Turned nodes C mapped I i On d = Standing nodes C mapped I (i + 1) d
 Turned nodes C mapped I i Full d = TooMany C
 Turned nodes C mapped I i (Shrunk picks) d =
-    Progress C (i + 1) (kept nodes d) d.gone.words
+    Progress C (i + 1) (kept nodes d) d.held.words d.gone.words
     × ((next : List ℕ) (J : List Word) → Taken C (length I) (picked picks) next J → Image C (in_hand nodes C (i + 1) d) next d.gone.words J)
     × ((k : ℕ) → k < length I → picked picks k < length C)
 
 -- after a pass from literal `at` on, where I is what the clause was last turned into
-abbrev pub Passed : List Node → (C I : List Word) → (at : ℕ) → Outcome → Decided → Type 0
-Passed nodes C I at Whole d = Progress C (length C) (kept nodes d) d.gone.words
+abbrev pub Passed : List Node → (C I : List Word) → (at : ℕ) → {N : ℕ} → Outcome N → Decided → Type 0
+Passed nodes C I at Whole d = Progress C (length C) (kept nodes d) d.held.words d.gone.words
 Passed nodes C I at WasFull d = TooMany C
 Passed nodes C I at (WasShrunk next picks) d =
     (at < next) × (next ≤ length C)
-    × Progress C next (kept nodes d) d.gone.words
+    × Progress C next (kept nodes d) d.held.words d.gone.words
     × ((mapped : List ℕ) (J : List Word) → Taken C (length I) (picked picks) mapped J → Image C (in_hand nodes C next d) mapped d.gone.words J)
     × ((k : ℕ) → k < length I → picked picks k < length C)
 

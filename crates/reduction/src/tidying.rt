@@ -4,7 +4,7 @@ ghost use Rattle.bounded.specs.Elems.{elems};
 ghost use Rattle.clauses.specs.Clauses.{literals_at};
 ghost use Rattle.subsume.specs.Bits.{bit_at};
 ghost use Rattle.subsume.specs.Choices.{Picked, pick, picked};
-ghost use Rattle.subsume.specs.Solving.{Spared};
+ghost use Rattle.subsume.specs.Solving.{SparedHolding};
 ghost use Rattle.term.specs.Matched.{Below};
 ghost use Rattle.reduction.specs.Tidyings.{Inside, Standing, Turned, Passed, Taken, Leaves};
 
@@ -21,39 +21,45 @@ const VARIABLES: usize = 4096;
 
 const WORDS: usize = 64;
 
-// What has been decided: where the literals begin that are kept, and which of all are gone.
+// What has been decided: where the literals begin that are kept, at which places of all they stand, and which of all are gone.
 #[derive(Clone, Copy)]
 pub(super) struct Decided {
     pub kept: Bounded<usize, 16>,
+    pub held: BitSet<4>,
     pub gone: BitSet<4>,
 }
 
 // What came of the turn of a literal.
-pub(super) enum Turn {
+pub(super) enum Turn<const N: usize> {
     // It was dropped or kept, and the table is right for the next one.
     On,
     // It must be kept, and there is no room.
     Full,
     // It was dropped, since these choices take each literal of the table to one that is not gone.
-    Shrunk([Option<u16>; LITERALS]),
+    Shrunk([Option<u16>; N]),
 }
 
 impl Decided {
-    // Decides on literal `i`: it is dropped where the literals that are left cover the clause without it.
-    fn turn(
+    // Decides on literal `i`: it is dropped where the literals that are left cover the clause without it. It is enough to
+    // look for choices that leave those literals where they are that are kept: see `Retracts`.
+    fn turn<const N: usize, const V: usize, const W: usize>(
         &mut self,
-        table: &Table<'_, LITERALS, WORDS>,
-        start: &State<LITERALS>,
+        table: &Table<'_, N, W>,
+        start: &mut State<N>,
         mapped: &BitSet<4>,
         i: usize,
-    ) -> Turn
+    ) -> Turn<N>
         requires literal { i < length table.now.targets.starts.now }
-        requires variables { Below VARIABLES table.now.literals.nodes.now }
-        requires picked { Picked start.now.sets (length table.now.literals.starts.now) (length table.now.targets.starts.now) start.now.picks }
-        requires none { (k : ℕ) → pick start.now.picks k ≡ None }
-        requires spared { Spared table.now.literals.nodes.now table.now.literals.starts.now table.now.targets.nodes.now table.now.targets.starts.now start.now.sets }
+        requires same { table.now.literals.nodes.now ≡ table.now.targets.nodes.now }
+        requires variables { Below V table.now.literals.nodes.now × (V ≤ 65536) }
+        requires picked { Picked start.old.sets (length table.now.literals.starts.now) (length table.now.targets.starts.now) start.old.picks }
+        requires none { (k : ℕ) → pick start.old.picks k ≡ None }
+        requires spared { SparedHolding table.now.literals.nodes.now table.now.literals.starts.now table.now.targets.nodes.now table.now.targets.starts.now self.old.held.words start.old.sets }
         requires inside { Inside (length table.now.targets.nodes.now) self.old }
         requires standing { Standing table.now.targets.nodes.now (literals_at table.now.targets.nodes.now table.now.targets.starts.now) mapped.now.words (literals_at table.now.literals.nodes.now table.now.literals.starts.now) i self.old }
+        ensures picked { Picked start.new.sets (length table.now.literals.starts.now) (length table.now.targets.starts.now) start.new.picks }
+        ensures none { (k : ℕ) → pick start.new.picks k ≡ None }
+        ensures spared { SparedHolding table.now.literals.nodes.now table.now.literals.starts.now table.now.targets.nodes.now table.now.targets.starts.now self.new.held.words start.new.sets }
         ensures inside { Inside (length table.now.targets.nodes.now) self.new }
         ensures turned { Turned table.now.targets.nodes.now (literals_at table.now.targets.nodes.now table.now.targets.starts.now) mapped.now.words (literals_at table.now.literals.nodes.now table.now.literals.starts.now) i result self.new }
     {
@@ -61,10 +67,12 @@ impl Decided {
         if !mapped.test(i) {
             return Turn::On;
         }
-        if let Some(picks) = table.choose_outside::<VARIABLES>(start, &self.gone) {
+        if let Some(picks) = table.choose_outside::<V>(start, &self.gone, &table.part_at(i)) {
             return Turn::Shrunk(picks);
         }
         self.gone.exclude(i);
+        self.held.include(i);
+        table.hold(start, i);
         match self.kept.push(table.targets.starts[i]) {
             Ok(()) => Turn::On,
             Err(_) => Turn::Full,
@@ -73,7 +81,7 @@ impl Decided {
 }
 
 // How a pass over the literals ends.
-pub(super) enum Outcome {
+pub(super) enum Outcome<const N: usize> {
     // Each has had its turn.
     Whole,
     // More must be kept than there is room for.
@@ -81,28 +89,43 @@ pub(super) enum Outcome {
     // The literals before `next` have had their turn, and these choices were found at the last of them.
     Shrunk {
         next: usize,
-        picks: [Option<u16>; LITERALS],
+        picks: [Option<u16>; N],
     },
+}
+
+// Where a search begins: pruned, and the literals at the places in `held` are left where they are.
+fn start<const N: usize, const W: usize>(table: &Table<'_, N, W>, held: &BitSet<4>) -> State<N>
+    ensures picked { Picked result.sets (length table.now.literals.starts.now) (length table.now.targets.starts.now) result.picks }
+    ensures none { (k : ℕ) → pick result.picks k ≡ None }
+    ensures spared { SparedHolding table.now.literals.nodes.now table.now.literals.starts.now table.now.targets.nodes.now table.now.targets.starts.now held.now.words result.sets }
+{
+    let mut state = table.start();
+    for j in 0..table.targets.len() {
+        if held.test(j) {
+            table.hold(&mut state, j);
+        }
+    }
+    state
 }
 
 // Gives each literal of a clause from `at` on its turn, until one is dropped by choices that are new. The clause is the targets
 // of the table, and its literals are what it was last turned into, at the places in `mapped`.
-fn pass(
-    table: &Table<'_, LITERALS, WORDS>,
+fn pass<const N: usize, const V: usize, const W: usize>(
+    table: &Table<'_, N, W>,
     mapped: &BitSet<4>,
     at: usize,
     decided: &mut Decided,
-) -> Outcome
+) -> Outcome<N>
     requires same { table.now.literals.nodes.now ≡ table.now.targets.nodes.now }
-    requires variables { Below VARIABLES table.now.targets.nodes.now }
+    requires variables { Below V table.now.targets.nodes.now × (V ≤ 65536) }
     requires inside { Inside (length table.now.targets.nodes.now) decided.old }
     requires standing { Standing table.now.targets.nodes.now (literals_at table.now.targets.nodes.now table.now.targets.starts.now) mapped.now.words (literals_at table.now.literals.nodes.now table.now.literals.starts.now) at decided.old }
     ensures inside { Inside (length table.now.targets.nodes.now) decided.new }
     ensures passed { Passed table.now.targets.nodes.now (literals_at table.now.targets.nodes.now table.now.targets.starts.now) (literals_at table.now.literals.nodes.now table.now.literals.starts.now) at result decided.new }
 {
-    let start = table.start();
+    let mut state = start(table, &decided.held);
     for i in at..table.targets.len() {
-        match decided.turn(table, &start, mapped, i) {
+        match decided.turn::<N, V, W>(table, &mut state, mapped, i) {
             Turn::On => {}
             Turn::Full => return Outcome::Full,
             Turn::Shrunk(picks) => return Outcome::Shrunk { next: i + 1, picks },
@@ -112,12 +135,12 @@ fn pass(
 }
 
 // The literals that the first `count` choices take: where they begin, and their places.
-fn targets(
+fn targets<const N: usize>(
     clause: View<'_>,
-    picks: &[Option<u16>; LITERALS],
+    picks: &[Option<u16>; N],
     count: usize,
-) -> (Bounded<usize, LITERALS>, BitSet<4>)
-    requires few { (length clause.starts.now ≤ LITERALS) × (count ≤ LITERALS) }
+) -> (Bounded<usize, N>, BitSet<4>)
+    requires few { (length clause.starts.now ≤ N) × (count ≤ N) × (N ≤ 256) }
     requires chosen { (k : ℕ) → k < count → picked picks.now k < length clause.starts.now }
     ensures inside { All (λ s. s < length clause.entry.nodes.now) (elems result.0) }
     ensures taken { Taken (literals_at clause.entry.nodes.now clause.entry.starts.now) count (picked picks.now) result.1.words (literals_at clause.entry.nodes.now (elems result.0)) }
@@ -142,25 +165,38 @@ pub fn tidied(clause: View<'_>) -> Option<Bounded<usize, 16>>
     requires variables { Below VARIABLES clause.nodes.now }
     ensures { Leaves clause.entry.nodes.now (literals_at clause.entry.nodes.now clause.entry.starts.now) result }
 {
+    tidied_in::<LITERALS, SLOTS, VARIABLES, WORDS>(clause)
+}
+
+// The same with room for N literals, K slots, V variables and nodes, and W words of 64 bits for sets of words and of variables.
+fn tidied_in<const N: usize, const K: usize, const V: usize, const W: usize>(
+    clause: View<'_>,
+) -> Option<Bounded<usize, 16>>
+    requires few { (length clause.starts.now ≤ N) × (N ≤ 256) × (K ≤ 65536) × (W ≤ 1024) }
+    requires small { (length clause.nodes.now ≤ V) × (V ≤ 65535) }
+    requires variables { Below V clause.nodes.now }
+    ensures { Leaves clause.entry.nodes.now (literals_at clause.entry.nodes.now clause.entry.starts.now) result }
+{
     let mut decided = Decided {
         kept: Bounded::new(0),
+        held: BitSet::new(),
         gone: BitSet::new(),
     };
-    let words = Targets::<VARIABLES>::new(clause);
-    let mut slots = Slots::<LITERALS, SLOTS>::new();
-    let (mut image, mut mapped) = whole(clause);
+    let words = Targets::<V>::new(clause);
+    let mut slots = Slots::<N, K>::new();
+    let (mut image, mut mapped) = whole::<N>(clause);
     let mut at = 0;
     loop {
         let view = View {
             nodes: clause.nodes,
             starts: image.as_slice(),
         };
-        let table = Table::<LITERALS, WORDS>::link(view, &words, &mut slots);
-        match pass(&table, &mapped, at, &mut decided) {
+        let table = Table::<N, W>::link(view, &words, &mut slots);
+        match pass::<N, V, W>(&table, &mapped, at, &mut decided) {
             Outcome::Whole => return Some(decided.kept),
             Outcome::Full => return None,
             Outcome::Shrunk { next, picks } => {
-                (image, mapped) = targets(clause, &picks, image.len());
+                (image, mapped) = targets::<N>(clause, &picks, image.len());
                 at = next;
             }
         }
@@ -168,8 +204,8 @@ pub fn tidied(clause: View<'_>) -> Option<Bounded<usize, 16>>
 }
 
 // All literals of a clause: where they begin, and their places.
-fn whole(clause: View<'_>) -> (Bounded<usize, LITERALS>, BitSet<4>)
-    requires { length clause.starts.now ≤ LITERALS }
+fn whole<const N: usize>(clause: View<'_>) -> (Bounded<usize, N>, BitSet<4>)
+    requires { (length clause.starts.now ≤ N) × (N ≤ 256) }
     ensures starts { elems result.0 ≡ clause.entry.starts.now }
     ensures places { (j : ℕ) → j < length clause.entry.starts.now → bit_at result.1.words j ≡ 1 }
 {

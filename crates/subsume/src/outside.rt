@@ -88,13 +88,17 @@ impl<const N: usize, const W: usize> Table<'_, N, W> {
         self.search::<V>(self.without(start, gone), first)
     }
 
-    // The literals that hang together with literal `i` by variables that they share. It is for the order of the search,
-    // and no promise rests on it.
-    pub fn part(&self, i: usize) -> BitSet<4> {
+    // The literals that hang together by variables that they share with one that begins where the target `j` does. It is for
+    // the order of the search, and no promise rests on it.
+    pub fn part_at(&self, j: usize) -> BitSet<4>
+        requires { j < length self.now.targets.starts.now }
+    {
         let mut part = BitSet::<4>::new();
         let mut queue = BitSet::<4>::new();
-        if i < 256 {
-            queue.include(i);
+        for (i, start) in self.literals.starts.iter().enumerate() {
+            if *start == self.targets.starts[j] {
+                queue.include(i);
+            }
         }
         for _ in 0..self.literals.len() {
             let Some(k) = queue.pop() else {

@@ -4,7 +4,7 @@ use Rattle.subsume.specs.Bits.{bit_at}
 use Rattle.reduction.proofs.tidying.whole.Given as goal
 
 abbrev pub invariant-loop-j : goal.invariant-loop-j
-invariant-loop-j l = record {
+invariant-loop-j g l = record {
   starts : elems l.starts ≡ take l.j l.start-items;
   places : (k : ℕ) → k < l.j → bit_at l.places.words k ≡ 1;
 }

@@ -6,11 +6,11 @@ use Rattle.clauses.specs.Clauses.{literals_at}
 use Rattle.subsume.specs.Choices.{picked}
 use Rattle.subsume.proofs.Sets.{absent}
 use Rattle.reduction.specs.Progress.{Progress, Image}
-use Rattle.reduction.proofs.Turning.{free-progress, free-stays, spare-progress, spare-next, needed-more, needed-image, needed-full}
+use Rattle.reduction.proofs.Turning.{free-progress, free-stays, spare-progress, spare-next, none-left, apart, needed-more, needed-image, needed-full, still-spared, still-held}
 use Rattle.reduction.proofs.tidying.Decided.turn.Goals as goal
 
 pub returns-then-not-test-clause-turned : goal.returns-then-not-test-clause-turned
-returns-then-not-test-clause-turned c =
+returns-then-not-test-clause-turned g c =
     let a = c.args.table.now.targets in
     let t = c.args.table.now in
     let I = literals_at t.literals.nodes.now t.literals.starts.now in
@@ -18,52 +18,81 @@ returns-then-not-test-clause-turned c =
     let d = c.args.self.now in
     let out = absent c.args.mapped.now.words c.args.i (λ e. both_ways _ c.if-not-test.true (c.test.ensures.1 e)) in
     record {
-      progress = free-progress a.nodes.now a.starts.now (elems d.kept) c.args.i c.requires.literal d.gone.words c.args.mapped.now.words I s.progress s.image c.include.new.self.words c.include.ensures.here c.include.ensures.others out;
-      image = free-stays a.nodes.now a.starts.now (elems d.kept) c.args.i c.requires.literal d.gone.words c.args.mapped.now.words I s.progress s.image c.include.new.self.words c.include.ensures.here c.include.ensures.others out;
+      progress = free-progress a.nodes.now a.starts.now (elems d.kept) c.args.i c.requires.literal d.held.words d.gone.words c.args.mapped.now.words I s.progress s.image c.include.new.self.words c.include.ensures.here c.include.ensures.others out;
+      image = free-stays a.nodes.now a.starts.now (elems d.kept) c.args.i c.requires.literal d.held.words d.gone.words c.args.mapped.now.words I s.progress s.image c.include.new.self.words c.include.ensures.here c.include.ensures.others out;
     }
 
 pub returns-in-Some-clause-turned : goal.returns-in-Some-clause-turned
-returns-in-Some-clause-turned c =
+returns-in-Some-clause-turned g c =
     let a = c.args.table.now.targets in
     let t = c.args.table.now in
     let I = literals_at t.literals.nodes.now t.literals.starts.now in
     let s = c.requires.standing in
     let d = c.args.self.now in
     let choice = picked c.in-Some.picks in
-    let chosen = c.in-Some.ensures in (
-      spare-progress a.nodes.now a.starts.now (elems d.kept) c.args.i c.requires.literal d.gone.words c.args.mapped.now.words I s.progress s.image c.include.new.self.words c.include.ensures.here c.include.ensures.others choice chosen,
-      spare-next a.nodes.now a.starts.now (elems d.kept) c.args.i c.requires.literal d.gone.words c.args.mapped.now.words I s.progress s.image c.include.new.self.words c.include.ensures.here c.include.ensures.others choice chosen,
+    let away = apart a.nodes.now a.starts.now (elems d.kept) c.args.i c.requires.literal d.held.words d.gone.words c.args.mapped.now.words I s.progress s.image c.include.new.self.words c.include.ensures.here c.include.ensures.others in
+    let chosen = c.in-Some.ensures d.held.words c.requires.spared away in (
+      spare-progress a.nodes.now a.starts.now (elems d.kept) c.args.i c.requires.literal d.held.words d.gone.words c.args.mapped.now.words I s.progress s.image c.include.new.self.words c.include.ensures.here c.include.ensures.others choice chosen,
+      spare-next a.nodes.now a.starts.now (elems d.kept) c.args.i c.requires.literal d.held.words d.gone.words c.args.mapped.now.words I s.progress s.image c.include.new.self.words c.include.ensures.here c.include.ensures.others choice chosen,
       λ k h. (chosen.1 k h).0,
     )
 
 pub returns-in-Ok-clause-inside : goal.returns-in-Ok-clause-inside
-returns-in-Ok-clause-inside c =
+returns-in-Ok-clause-inside g c =
     let a = c.args.table.now.targets in
     let d = c.args.self.now in
     rw c.in-Ok.ensures.1 (All-push (λ s. s < length a.nodes.now) (elems d.kept) (get_or a.starts.now c.args.i 0) c.requires.inside (a.inside c.args.i c.requires.literal))
 
+pub returns-in-Ok-clause-spared : goal.returns-in-Ok-clause-spared
+returns-in-Ok-clause-spared g c =
+    let t = c.args.table.now in
+    let held = c.args.self.now.held.words in
+    let more = c.include-2.new.self.words in
+    c.hold.ensures.spared more c.include-2.ensures.here
+    (still-spared t.literals.nodes.now t.literals.starts.now t.targets.nodes.now t.targets.starts.now c.args.start.now.sets held more
+    (still-held held more c.args.i c.include-2.ensures.here c.include-2.ensures.others) c.requires.spared)
+
+pub returns-in-Err-clause-spared : goal.returns-in-Err-clause-spared
+returns-in-Err-clause-spared g c =
+    let t = c.args.table.now in
+    let held = c.args.self.now.held.words in
+    let more = c.include-2.new.self.words in
+    c.hold.ensures.spared more c.include-2.ensures.here
+    (still-spared t.literals.nodes.now t.literals.starts.now t.targets.nodes.now t.targets.starts.now c.args.start.now.sets held more
+    (still-held held more c.args.i c.include-2.ensures.here c.include-2.ensures.others) c.requires.spared)
+
 pub returns-in-Ok-clause-turned : goal.returns-in-Ok-clause-turned
-returns-in-Ok-clause-turned c =
+returns-in-Ok-clause-turned g c =
     let a = c.args.table.now.targets in
     let t = c.args.table.now in
     let I = literals_at t.literals.nodes.now t.literals.starts.now in
     let s = c.requires.standing in
     let d = c.args.self.now in
-    let none = c.in_default.ensures in
+    let held = c.include-2.new.self.words in
+    let away = apart a.nodes.now a.starts.now (elems d.kept) c.args.i c.requires.literal d.held.words d.gone.words c.args.mapped.now.words I s.progress s.image c.include.new.self.words c.include.ensures.here c.include.ensures.others in
+    let none = none-left a.nodes.now a.starts.now (elems d.kept) c.args.i c.requires.literal d.held.words d.gone.words c.args.mapped.now.words I s.progress s.image c.include.new.self.words c.include.ensures.here c.include.ensures.others
+    (c.in_default.ensures d.held.words c.requires.spared away) in
     let C = literals_at a.nodes.now a.starts.now in
     let e = sym c.in-Ok.ensures.1 in
     record {
-      progress = subst (λ (l : List ℕ). Progress C (c.args.i + 1) (literals_at a.nodes.now l) c.exclude.new.self.words) e (needed-more a.nodes.now a.starts.now (elems d.kept) c.args.i c.requires.literal d.gone.words c.args.mapped.now.words I s.progress s.image c.include.new.self.words c.include.ensures.here c.include.ensures.others c.exclude.new.self.words c.exclude.ensures.here c.exclude.ensures.others none);
-      image = subst (λ (l : List ℕ). Image C (literals_at a.nodes.now l ++ drop (c.args.i + 1) C) c.args.mapped.now.words c.exclude.new.self.words I) e (needed-image a.nodes.now a.starts.now (elems d.kept) c.args.i c.requires.literal d.gone.words c.args.mapped.now.words I s.progress s.image c.include.new.self.words c.include.ensures.here c.include.ensures.others c.exclude.new.self.words c.exclude.ensures.here c.exclude.ensures.others none);
+      progress = subst (λ (l : List ℕ). Progress C (c.args.i + 1) (literals_at a.nodes.now l) held c.exclude.new.self.words) e
+          (needed-more a.nodes.now a.starts.now (elems d.kept) c.args.i c.requires.literal d.held.words d.gone.words c.args.mapped.now.words I s.progress s.image c.include.new.self.words c.include.ensures.here c.include.ensures.others
+          c.exclude.new.self.words held c.exclude.ensures.here c.exclude.ensures.others c.include-2.ensures.others none);
+      image = subst (λ (l : List ℕ). Image C (literals_at a.nodes.now l ++ drop (c.args.i + 1) C) c.args.mapped.now.words c.exclude.new.self.words I) e
+          (needed-image a.nodes.now a.starts.now (elems d.kept) c.args.i c.requires.literal d.held.words d.gone.words c.args.mapped.now.words I s.progress s.image c.include.new.self.words c.include.ensures.here c.include.ensures.others
+          c.exclude.new.self.words held c.exclude.ensures.here c.exclude.ensures.others c.include-2.ensures.others none);
     }
 
 pub returns-in-Err-clause-turned : goal.returns-in-Err-clause-turned
-returns-in-Err-clause-turned c =
+returns-in-Err-clause-turned g c =
     let a = c.args.table.now.targets in
     let t = c.args.table.now in
     let I = literals_at t.literals.nodes.now t.literals.starts.now in
     let s = c.requires.standing in
     let d = c.args.self.now in
-    let none = c.in_default.ensures in
-    needed-full a.nodes.now a.starts.now (elems d.kept) c.args.i c.requires.literal d.gone.words c.args.mapped.now.words I s.progress s.image c.include.new.self.words c.include.ensures.here c.include.ensures.others c.exclude.new.self.words c.exclude.ensures.here c.exclude.ensures.others none
+    let away = apart a.nodes.now a.starts.now (elems d.kept) c.args.i c.requires.literal d.held.words d.gone.words c.args.mapped.now.words I s.progress s.image c.include.new.self.words c.include.ensures.here c.include.ensures.others in
+    let none = none-left a.nodes.now a.starts.now (elems d.kept) c.args.i c.requires.literal d.held.words d.gone.words c.args.mapped.now.words I s.progress s.image c.include.new.self.words c.include.ensures.here c.include.ensures.others
+    (c.in_default.ensures d.held.words c.requires.spared away) in
+    needed-full a.nodes.now a.starts.now (elems d.kept) c.args.i c.requires.literal d.held.words d.gone.words c.args.mapped.now.words I s.progress s.image c.include.new.self.words c.include.ensures.here c.include.ensures.others
+    c.exclude.new.self.words c.include-2.new.self.words c.exclude.ensures.here c.exclude.ensures.others c.include-2.ensures.others none
     c.in-Err.ensures.0
