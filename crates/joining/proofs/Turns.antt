@@ -94,11 +94,11 @@ module _ (a b : View) where
 
   module _ (r : RawClause) (s : List Pair) where
     -- where all literals are joined, there are fewer variables than nodes
-    pub joined-below : (i : ℕ) → length a.starts.now ≤ i → Joined i r s → Below 4096 (elems r.nodes)
+    pub joined-below : (i : ℕ) → length a.starts.now ≤ i → Joined i r s → Below (length (elems r.nodes)) (elems r.nodes)
     joined-below i h g =
         let none = drop_all i C (omega (arith, length-map a.starts.now (word_at a.nodes.now))) in
         let built : literals r ≡ raw C D = sym (append-nil (literals r)) ∙ (rw none at g.built) in
-        nodes-below 4096 (elems r.nodes) r.whole (subst (λ (L : List Word). Numbered 0 (variables L)) (sym built) (raw-numbered C D)) (omega (arith, g.room))
+        nodes-below (length (elems r.nodes)) (elems r.nodes) r.whole (subst (λ (L : List Word). Numbered 0 (variables L)) (sym built) (raw-numbered C D)) (omega arith)
 
     pub joining-more : (i j : ℕ) (r' : RawClause) (s' : List Pair) → i < length a.starts.now → j < length b.starts.now → Joining i j r s
         → Added a.nodes.now b.nodes.now (get_or a.starts.now i 0) (get_or b.starts.now j 0) r r' s s' → Joining i (j + 1) r' s'

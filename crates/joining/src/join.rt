@@ -21,7 +21,7 @@ pub fn raw_clause(first: View<'_>, second: View<'_>) -> RawClause
     requires few { (length first.starts.now ≤ 16) × (length second.starts.now ≤ 16) }
     requires small { length first.nodes.now ≤ 256 }
     ensures literals { literals result ≡ raw (literals_at first.entry.nodes.now first.entry.starts.now) (literals_at second.entry.nodes.now second.entry.starts.now) }
-    ensures variables { Below 4096 (elems result.nodes) }
+    ensures variables { Below (length (elems result.nodes)) (elems result.nodes) }
 {
     let mut clause = RawClause::new();
     let mut pairs = Bounded::new(Pair { left: 0, right: 0 });

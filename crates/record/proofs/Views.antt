@@ -2,7 +2,7 @@
 use Rattle.std.proofs.Common.{◌≡◌, ℕ, ◌≤◌, List, [], ◌∷◌, sym, refl, ap, ◌∙◌, ap₂, arith}
 use Rattle.term.specs.Coding.{codes, word_at}
 use Rattle.term.specs.Matched.{Below}
-use Rattle.term.specs.Words.{Word, Words}
+use Rattle.term.specs.Words.{Word, Words, sizes}
 use Rattle.term.specs.declared.node.Node.{Node}
 use Rattle.clauses.specs.Clauses.{literals_at, each}
 use Rattle.clauses.proofs.Below.{words-below}
@@ -23,8 +23,8 @@ pub literals-seen : (ls : Words) (nodes : List Node) (starts : List ℕ) → nod
 literals-seen ls nodes starts e f = ap₂ literals_at e f ∙ literals-each ls
 
 -- variables
-pub clause-below : (ls : Words) → Clause ls → Below 256 (codes ls)
-clause-below ls c = let small = c.small in (words-below ls 0 256 c.order (omega arith)).0
+pub clause-below : (ls : Words) → Clause ls → (n : ℕ) → sizes ls ≤ n → Below n (codes ls)
+clause-below ls c n h = (words-below ls 0 n c.order (omega arith)).0
 
 pub few-variables : (ls : Words) → Clause ls → variables ls ≤ 256
 few-variables ls c = let small = c.small in omega (arith, (words-below ls 0 256 c.order (omega arith)).1)

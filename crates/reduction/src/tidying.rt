@@ -11,16 +11,6 @@ ghost use Rattle.reduction.specs.Tidyings.{Inside, Standing, Turned, Passed, Tak
 use bounded::Bounded;
 use subsume::{BitSet, Slots, State, Table, Targets, View};
 
-// How many literals a clause may have, how many slots help the search, how many variables a clause may have, and how many
-// words of 64 bits a set of them has.
-const LITERALS: usize = 256;
-
-const SLOTS: usize = 1024;
-
-const VARIABLES: usize = 4096;
-
-const WORDS: usize = 64;
-
 // What has been decided: where the literals begin that are kept, at which places of all they stand, and which of all are gone.
 #[derive(Clone, Copy)]
 pub(super) struct Decided {
@@ -160,12 +150,19 @@ fn targets<const N: usize>(
 // Where the literals begin that tidying leaves of a clause; or none, where it leaves more than 16. Each literal from the first
 // to the last is dropped where those still kept cover what is left of them without it.
 pub fn tidied(clause: View<'_>) -> Option<Bounded<usize, 16>>
-    requires few { length clause.starts.now ≤ LITERALS }
-    requires small { length clause.nodes.now ≤ VARIABLES }
-    requires variables { Below VARIABLES clause.nodes.now }
+    requires few { length clause.starts.now ≤ 256 }
+    requires small { length clause.nodes.now ≤ 4096 }
+    requires variables { Below (length clause.nodes.now) clause.nodes.now }
     ensures { Leaves clause.entry.nodes.now (literals_at clause.entry.nodes.now clause.entry.starts.now) result }
 {
-    tidied_in::<LITERALS, SLOTS, VARIABLES, WORDS>(clause)
+    // What is small is tidied in less room, and so in less time.
+    if clause.len() <= 16 && clause.nodes.len() <= 256 {
+        tidied_in::<16, 128, 256, 4>(clause)
+    } else if clause.nodes.len() <= 1024 {
+        tidied_in::<256, 1024, 1024, 16>(clause)
+    } else {
+        tidied_in::<256, 1024, 4096, 64>(clause)
+    }
 }
 
 // The same with room for N literals, K slots, V variables and nodes, and W words of 64 bits for sets of words and of variables.

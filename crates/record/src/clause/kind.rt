@@ -67,7 +67,7 @@ impl Kind for Record {
 fn reduced(clause: View<'_>) -> Option<Record>
     requires few { length clause.starts.now ≤ 256 }
     requires small { length clause.nodes.now ≤ 4096 }
-    requires variables { Below 4096 clause.nodes.now }
+    requires variables { Below (length clause.nodes.now) clause.nodes.now }
     requires literals { All Literal (literals_at clause.nodes.now clause.starts.now) }
     ensures { Reduces (literals_at clause.entry.nodes.now clause.entry.starts.now) result }
 {

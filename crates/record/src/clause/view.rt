@@ -15,7 +15,8 @@ impl Record {
         ensures nodes { result.nodes.now ≡ codes (literals self.now) }
         ensures starts { result.starts.now ≡ begins 0 (literals self.now) }
         ensures literals { literals_at result.nodes.now result.starts.now ≡ clause self.now }
-        ensures variables { Below 256 result.nodes.now }
+        ensures variables { Below (length result.nodes.now) result.nodes.now }
+        ensures few { Below 256 result.nodes.now }
         ensures small { length result.nodes.now ≤ 256 }
     {
         View {

@@ -1,5 +1,6 @@
 use Rattle.std.proofs.Common.{length, sym, subst, ap, arith}
 use Rattle.term.specs.Coding.{Whole}
+use Rattle.term.specs.Coding.{codes}
 use Rattle.term.proofs.Codings.{whole-all, length-codes}
 use Rattle.record.specs.Reads.{Inside}
 use Rattle.record.specs.Records.{literals}
@@ -23,7 +24,14 @@ returns-clause-literals c = literals-seen (literals c.args.self.now) c.nodes.res
 pub returns-clause-variables : goal.returns-clause-variables
 returns-clause-variables c =
     let r = c.args.self.now in
-    subst (Below 256) (sym c.nodes.ensures.value) (clause-below (literals r) (held r))
+    let ls = literals r in
+    subst (λ nodes. Below (length nodes) nodes) (sym c.nodes.ensures.value) (clause-below ls (held r) (length (codes ls)) (omega (arith, length-codes ls)))
+
+pub returns-clause-few : goal.returns-clause-few
+returns-clause-few c =
+    let r = c.args.self.now in
+    let small = (held r).small in
+    subst (Below 256) (sym c.nodes.ensures.value) (clause-below (literals r) (held r) 256 (omega arith))
 
 pub returns-clause-small : goal.returns-clause-small
 returns-clause-small c =

@@ -1,14 +1,10 @@
-use Rattle.std.proofs.Common.{List, All, sym, subst, arith}
+use Rattle.std.proofs.Common.{List, All, sym, subst}
 use Rattle.term.specs.Words.{Word}
-use Rattle.term.proofs.Matchings.{below_more}
 use Rattle.record.specs.Clauses.{Literal}
 use Rattle.record.specs.Kind.{tidied}
 use Rattle.record.specs.Records.{clause}
 use Rattle.record.proofs.Reducing.{record-literals, record-within, not-beyond}
 use Rattle.record.proofs.clause.kind.RecordKind.tidy.Goals as goal
-
-pub reduced-requires-clause-variables : goal.reduced-requires-clause-variables
-reduced-requires-clause-variables c = below_more 256 4096 c.view.result.nodes.now (omega arith) c.view.ensures.variables
 
 pub reduced-requires-clause-literals : goal.reduced-requires-clause-literals
 reduced-requires-clause-literals c = subst (λ (l : List Word). All Literal l) (sym c.view.ensures.literals) (record-literals c.args.self.now)
