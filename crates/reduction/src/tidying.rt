@@ -9,7 +9,7 @@ ghost use Rattle.term.specs.Matched.{Below};
 ghost use Rattle.reduction.specs.Tidyings.{Inside, Standing, Turned, Passed, Taken, Leaves};
 
 use bounded::Bounded;
-use subsume::{BitSet, Slots, State, Table, Targets, View};
+use subsume::{BitSet, Order, Slots, State, Table, Targets, View};
 
 // What has been decided: where the literals begin that are kept, at which places of all they stand, and which of all are gone.
 #[derive(Clone, Copy)]
@@ -36,6 +36,7 @@ impl Decided {
         &mut self,
         table: &Table<'_, N, W>,
         start: &mut State<N>,
+        order: &mut Order<N>,
         mapped: &BitSet<4>,
         i: usize,
     ) -> Turn<N>
@@ -57,7 +58,9 @@ impl Decided {
         if !mapped.test(i) {
             return Turn::On;
         }
-        if let Some(picks) = table.choose_outside::<V>(start, &self.gone, &table.part_at(i)) {
+        // Only the part of this literal can fail, since others can stay as they are.
+        order.first = table.part_at(i);
+        if let Some(picks) = table.choose_outside::<V>(start, &self.gone, order) {
             return Turn::Shrunk(picks);
         }
         self.gone.exclude(i);
@@ -114,8 +117,9 @@ fn pass<const N: usize, const V: usize, const W: usize>(
     ensures passed { Passed table.now.targets.nodes.now (literals_at table.now.targets.nodes.now table.now.targets.starts.now) (literals_at table.now.literals.nodes.now table.now.literals.starts.now) at result decided.new }
 {
     let mut state = start(table, &decided.held);
+    let mut order = Order::new();
     for i in at..table.targets.len() {
-        match decided.turn::<N, V, W>(table, &mut state, mapped, i) {
+        match decided.turn::<N, V, W>(table, &mut state, &mut order, mapped, i) {
             Turn::On => {}
             Turn::Full => return Outcome::Full,
             Turn::Shrunk(picks) => return Outcome::Shrunk { next: i + 1, picks },

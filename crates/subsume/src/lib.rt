@@ -18,6 +18,7 @@ mod view;
 
 pub use bits::BitSet;
 pub use places::Targets;
+pub use search::Order;
 pub use slot::Slots;
 pub use state::State;
 pub use table::Table;

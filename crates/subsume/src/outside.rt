@@ -11,7 +11,7 @@ ghost use Rattle.subsume.specs.Retracting.{Stays, Apart};
 ghost use Rattle.subsume.specs.Solving.{SparedHolding, SparedOutside};
 
 use super::bits::BitSet;
-use super::search::narrow;
+use super::search::{Order, narrow};
 use super::state::State;
 use super::table::Table;
 
@@ -72,12 +72,12 @@ impl<const N: usize, const W: usize> Table<'_, N, W> {
     }
 
     // A choice that works, of targets that are not gone; or none, where there is no such choice that leaves the literals where
-    // they are that are held in the state. The search begins with the literals in `first`.
+    // they are that are held in the state.
     pub fn choose_outside<const V: usize>(
         &self,
         start: &State<N>,
         gone: &BitSet<4>,
-        first: &BitSet<4>,
+        order: &mut Order<N>,
     ) -> Option<[Option<u16>; N]>
         requires same { self.now.literals.nodes.now ≡ self.now.targets.nodes.now }
         requires variables { Below V self.now.literals.nodes.now × (V ≤ 65536) }
@@ -85,7 +85,7 @@ impl<const N: usize, const W: usize> Table<'_, N, W> {
         requires none { (i : ℕ) → i < length self.now.literals.starts.now → pick start.now.picks i ≡ None }
         ensures { (kept : List ℕ) → SparedHolding self.now.literals.nodes.now self.now.literals.starts.now self.now.targets.nodes.now self.now.targets.starts.now kept start.now.sets → Apart kept gone.now.words (literals_at self.now.targets.nodes.now self.now.targets.starts.now) → MatchOption result ((θ : ℕ → Word) → All (λ l. Outside gone.now.words (literals_at self.now.targets.nodes.now self.now.targets.starts.now) (sub θ l)) (literals_at self.now.literals.nodes.now self.now.literals.starts.now) → Stays kept (literals_at self.now.targets.nodes.now self.now.targets.starts.now) θ → ⊥) (λ picks. ChoosesOutside gone.now.words (literals_at self.now.literals.nodes.now self.now.literals.starts.now) (literals_at self.now.targets.nodes.now self.now.targets.starts.now) (picked picks)) }
     {
-        self.search::<V>(self.without(start, gone), first)
+        self.search::<V>(self.without(start, gone), order)
     }
 
     // The literals that hang together by variables that they share with one that begins where the target `j` does. It is for

@@ -40,10 +40,40 @@ fn turn(first: &BitSet<4>, n: usize, k: usize) -> Option<usize>
     }
 }
 
-// By what the search orders the literals: those in `first` come first, and of them those with the fewest targets left.
-fn rank(first: &BitSet<4>, sets: &[BitSet<4>], i: usize) -> (bool, u32) {
-    let later = i >= 256 || !first.test(i);
-    (later, sets.get(i).map_or(0, |left| left.count()))
+// What orders the literals in a search. No promise rests on it.
+#[derive(Drop)]
+pub struct Order<const N: usize> {
+    // These come first.
+    pub first: BitSet<4>,
+    // How often each literal was left without a target: where that is often, few targets more are as good as fewer ones.
+    pub failures: [u32; N],
+}
+
+impl<const N: usize> Order<N> {
+    // No literal comes before another.
+    pub fn new() -> Order<N> {
+        Order {
+            first: BitSet::new(),
+            failures: [0; N],
+        }
+    }
+
+    // By what literal `i` comes before others: the least is the first.
+    fn rank(&self, sets: &[BitSet<4>], i: usize) -> (bool, u32) {
+        let later = i >= 256 || !self.first.test(i);
+        let targets = sets.get(i).map_or(0, |left| left.count());
+        let failures = self.failures.get(i).copied().unwrap_or(0);
+        (later, (targets % 4096 << 20) / failures.saturating_add(1))
+    }
+
+    // Notes which literals are left without a target.
+    fn note(&mut self, sets: &[BitSet<4>]) {
+        for (failures, left) in self.failures.iter_mut().zip(sets) {
+            if left.is_empty() {
+                *failures = failures.saturating_add(1);
+            }
+        }
+    }
 }
 
 impl<const N: usize, const W: usize> Table<'_, N, W> {
@@ -90,15 +120,15 @@ impl<const N: usize, const W: usize> Table<'_, N, W> {
             .any(|left| left.is_empty())
     }
 
-    // The literal with the fewest targets left, of those whose choice is still to be made; those in `first` come first.
-    fn choose(&self, state: &State<N>, first: &BitSet<4>) -> Option<usize>
+    // A literal whose choice is still to be made: the first by the order.
+    fn choose(&self, state: &State<N>, order: &Order<N>) -> Option<usize>
         ensures { Chosen result (length self.now.literals.starts.now) state.now.picks }
     {
         state.picks[..self.literals.len()]
             .iter()
             .enumerate()
             .filter(|(_, pick)| pick.is_none())
-            .min_by_key(|(i, _)| rank(first, &state.sets, *i))
+            .min_by_key(|(i, _)| order.rank(&state.sets, *i))
             .map(|(i, _)| i)
     }
 
@@ -123,14 +153,14 @@ impl<const N: usize, const W: usize> Table<'_, N, W> {
         ensures found { result ≡ true → Solved self.now.literals.nodes.now self.now.literals.starts.now self.now.targets.nodes.now self.now.targets.starts.now }
         ensures none { result ≡ false → Hopeful self.now.literals.nodes.now self.now.literals.starts.now self.now.targets.nodes.now self.now.targets.starts.now state.entry.sets → ⊥ }
     {
-        self.search::<V>(state, &BitSet::<4>::new()).is_some()
+        self.search::<V>(state, &mut Order::new()).is_some()
     }
 
-    // A choice that works; or none, where none works whose targets are left. The literals in `first` are chosen for first.
+    // A choice that works; or none, where none works whose targets are left.
     pub(super) fn search<const V: usize>(
         &self,
         mut state: State<N>,
-        first: &BitSet<4>,
+        order: &mut Order<N>,
     ) -> Option<[Option<u16>; N]>
         requires variables { Below V self.now.literals.nodes.now × (V ≤ 65536) }
         requires picked { Picked state.sets (length self.now.literals.starts.now) (length self.now.targets.starts.now) state.picks }
@@ -139,10 +169,11 @@ impl<const N: usize, const W: usize> Table<'_, N, W> {
         ensures none { result ≡ None → Hopeful self.now.literals.nodes.now self.now.literals.starts.now self.now.targets.nodes.now self.now.targets.starts.now state.entry.sets → ⊥ }
     {
         if self.spent(&state) {
+            order.note(&state.sets[..self.literals.len()]);
             return None;
         }
         self.settle(&mut state);
-        let Some(i) = self.choose(&state, first) else {
+        let Some(i) = self.choose(&state, order) else {
             if check::<V>(self.literals, self.targets, &state.picks) {
                 return Some(state.picks);
             }
@@ -156,7 +187,7 @@ impl<const N: usize, const W: usize> Table<'_, N, W> {
                 continue;
             };
             if state.sets[i].test(j) {
-                if let Some(picks) = self.search::<V>(self.take(&state, i, j), first) {
+                if let Some(picks) = self.search::<V>(self.take(&state, i, j), order) {
                     return Some(picks);
                 }
             }
