@@ -63,9 +63,9 @@ module _ (C : List Word) (i : ℕ) (kept : List Word) (lt : i < length C) where
     at-hand : get_or hand (length kept) (var 0) ≡ literal
     at-hand = ap (λ (l : List Word). get_or l (length kept) (var 0)) hand-is ∙ get_or-append_seam kept literal (drop (i + 1) C) (var 0)
 
-    pub keep-step : (held' after : List ℕ) → ((j : ℕ) → bit_at after j ≡ bit_at gone j) → ((j : ℕ) → (j ≢ i) → bit_at held' j ≡ bit_at held j) → (Covers hand rest → ⊥)
-        → Progress C (i + 1) (kept ++ literal ∷ []) held' after
-    keep-step held' after same others n =
+    pub keep-step : (held' : List ℕ) → ((j : ℕ) → (j ≢ i) → bit_at held' j ≡ bit_at held j) → (Covers hand rest → ⊥)
+        → Progress C (i + 1) (kept ++ literal ∷ []) held' gone
+    keep-step held' others n =
         let no : Covers hand (remove hand (length kept)) → ⊥ = λ c. n (subst (Covers hand) removed c) in
         let long : length (kept ++ literal ∷ []) ≡ length kept + 1 = length_push kept literal in
         let firm : Needed (length kept + 1) hand = needed-kept (length kept) hand no p.needed in
@@ -82,14 +82,14 @@ module _ (C : List Word) (i : ℕ) (kept : List Word) (lt : i < length C) where
           forth = λ R t. p.forth R (keeps room no (rw (long, hand-pushed) at t));
           back = λ R t. rw (long, hand-pushed) (after-keep (p.back R t) room no);
           early = λ j d l b. elim (cases_lt j i) [
-            | inl k ↦ Contains-append_left kept (literal ∷ []) (get_or C j d) (p.early j d k (sym (same j) ∙ b))
+            | inl k ↦ Contains-append_left kept (literal ∷ []) (get_or C j d) (p.early j d k b)
             | inr k ↦ (let e : j ≡ i = omega arith in subst (λ w. Contains (kept ++ literal ∷ []) w) (read d j e) (Contains-push kept literal))
           ];
           stays = λ w c. elim (Contains-push_cases kept literal w c) [
-            | inl k ↦ (let s = p.stays w k in (s.0, omega (arith, s.1), same s.0 ∙ s.2, s.3))
-            | inr e ↦ (i, omega arith, same i ∙ p.late i (omega arith), sym (read w i refl) ∙ e)
+            | inl k ↦ (let s = p.stays w k in (s.0, omega (arith, s.1), s.2, s.3))
+            | inr e ↦ (i, omega arith, p.late i (omega arith), sym (read w i refl) ∙ e)
           ];
-          late = λ j l. same j ∙ p.late j (omega arith);
+          late = λ j l. p.late j (omega arith);
           covered = subst (Covers C) (sym hand-pushed) p.covered;
           needed = rw (long, hand-pushed) firm;
           before = λ j b. elim (cases_eq j i) [
@@ -98,8 +98,8 @@ module _ (C : List Word) (i : ℕ) (kept : List Word) (lt : i < length C) where
           ];
           apart = record {
             here = λ j l b. elim (cases_eq j i) [
-              | inl s ↦ same j ∙ p.late j (omega (arith, s))
-              | inr s ↦ same j ∙ p.apart.here j l (sym (others j s) ∙ b)
+              | inl s ↦ p.late j (omega (arith, s))
+              | inr s ↦ p.apart.here j l (sym (others j s) ∙ b)
             ];
             once = λ j k l m b d e. elim (cases_eq j i) [
               | inl s ↦ s ∙ sym (other k d (sym e ∙ ap (λ x. get_or C x (var 0)) s))

@@ -7,11 +7,12 @@ use Rattle.term.specs.Words.{Word, var, sub}
 use Rattle.term.specs.declared.node.Node.{Node}
 use Rattle.clauses.specs.Clauses.{Covers, literals_at}
 use Rattle.clauses.proofs.Reductions.{tidies-front}
-use Rattle.subsume.specs.Bits.{bit_at}
+use Rattle.subsume.specs.Bits.{bit_at, Within}
 use Rattle.subsume.specs.FirstChoices.{Outside, ChoosesOutside}
 use Rattle.subsume.specs.Retracting.{Stays, Retracts, Apart}
-use Rattle.subsume.specs.Solving.{SparedHolding}
+use Rattle.subsume.specs.Solving.{SparedOutside}
 use Rattle.subsume.specs.declared.bits.BitSet.{BitSet}
+use Rattle.subsume.proofs.Avoiding.{not-within}
 use Rattle.reduction.specs.Progress.{Progress, Image}
 use Rattle.reduction.specs.Tidyings.{Taken, TooMany}
 use Rattle.reduction.proofs.Steps.{literal, hand-pushed, keep-step, apart-after, drop-step}
@@ -50,29 +51,23 @@ module _ (nodes : List Node) (S : List ℕ) (starts : List ℕ) (i : ℕ) (h : i
     apart = apart-after C i kept lt held gone p after here others
 
     -- and any other is kept
-    module _ (back held' : List ℕ) (out : bit_at back i ≡ 0) (same : (j : ℕ) → (j ≢ i) → bit_at back j ≡ bit_at after j)
-        (free : (j : ℕ) → (j ≢ i) → bit_at held' j ≡ bit_at held j) (none : (θ : ℕ → Word) → Retracts held after C θ → ⊥) where
-      bits : (j : ℕ) → bit_at back j ≡ bit_at gone j
-      bits j = ⊎_elim
-          (λ (e : j ≡ i). ap (bit_at back) e ∙ out ∙ sym (p.late i (omega arith)) ∙ ap (bit_at gone) (sym e))
-          (λ n. same j n ∙ others j n) (cases_eq j i)
-
-      needed-progress : Progress C (i + 1) (kept ++ literal C i kept lt ∷ []) held' back
-      needed-progress = keep-step C i kept lt held gone p held' back bits free (needed-stays C i kept lt held gone p mapped I m after here others none)
+    module _ (held' : List ℕ) (free : (j : ℕ) → (j ≢ i) → bit_at held' j ≡ bit_at held j) (none : (θ : ℕ → Word) → Retracts held after C θ → ⊥) where
+      needed-progress : Progress C (i + 1) (kept ++ literal C i kept lt ∷ []) held' gone
+      needed-progress = keep-step C i kept lt held gone p held' free (needed-stays C i kept lt held gone p mapped I m after here others none)
 
       more : kept ++ literal C i kept lt ∷ [] ≡ literals_at nodes (starts ++ get_or S i 0 ∷ [])
       more = ap (λ (w : Word). kept ++ w ∷ []) (get_or-map (word_at nodes) S i 0 (var 0) h) ∙ sym (map-append (word_at nodes) starts (get_or S i 0 ∷ []))
 
-      pub needed-more : Progress C (i + 1) (literals_at nodes (starts ++ get_or S i 0 ∷ [])) held' back
-      needed-more = subst (λ (l : List Word). Progress C (i + 1) l held' back) more needed-progress
+      pub needed-more : Progress C (i + 1) (literals_at nodes (starts ++ get_or S i 0 ∷ [])) held' gone
+      needed-more = subst (λ (l : List Word). Progress C (i + 1) l held' gone) more needed-progress
 
-      pub needed-image : Image C (literals_at nodes (starts ++ get_or S i 0 ∷ []) ++ drop (i + 1) C) mapped back I
+      pub needed-image : Image C (literals_at nodes (starts ++ get_or S i 0 ∷ []) ++ drop (i + 1) C) mapped gone I
       needed-image =
           let whole : literals_at nodes (starts ++ get_or S i 0 ∷ []) ++ drop (i + 1) C ≡ kept ++ drop i C =
           ap (λ (l : List Word). l ++ drop (i + 1) C) (sym more) ∙ hand-pushed C i kept lt in
           record {
             covered = subst (λ (D : List Word). Covers D I) (sym whole) m.covered;
-            places = λ w c. let s = m.places w c in (s.0, s.1, s.2, bits s.0 ∙ s.3, s.4);
+            places = λ w c. let s = m.places w c in (s.0, s.1, s.2, s.3, s.4);
           }
 
       -- with 16 kept before it
@@ -84,10 +79,22 @@ module _ (nodes : List Node) (S : List ℕ) (starts : List ℕ) (i : ℕ) (h : i
           let front = tidies-front (P.back R t) (omega (arith, length-append K (drop (i + 1) C))) in
           omega (arith, ap length front, long, length-take (length K) R, length-take (length K) (K ++ drop (i + 1) C), length-append K (drop (i + 1) C))
 
--- where more is held, no fewer choices are left
-pub still-spared : (N : List Node) (S : List ℕ) (M : List Node) (T : List ℕ) (sets : List (BitSet 4)) (held wider : List ℕ)
-    → ((j : ℕ) → bit_at held j ≡ 1 → bit_at wider j ≡ 1) → SparedHolding N S M T held sets → SparedHolding N S M T wider sets
-still-spared N S M T sets held wider keeps spared f within w holds = spared f within w (λ i j h g b. holds i j h g (keeps j b))
+-- where more is held or gone, no fewer choices are left
+pub still-spared : (N : List Node) (S : List ℕ) (M : List Node) (T : List ℕ) (sets : List (BitSet 4)) (held wider gone further : List ℕ)
+    → Within held wider → Within gone further → SparedOutside N S M T held gone sets → SparedOutside N S M T wider further sets
+still-spared N S M T sets held wider gone further h g spared f within w holds =
+    spared f (λ i k. ((within i k).0, not-within gone further g (f i) (within i k).1)) w (λ i j k l b. holds i j k l (h j b))
 
-pub still-held : (held wider : List ℕ) (i : ℕ) → bit_at wider i ≡ 1 → ((j : ℕ) → (j ≢ i) → bit_at wider j ≡ bit_at held j) → (j : ℕ) → bit_at held j ≡ 1 → bit_at wider j ≡ 1
-still-held held wider i here others j b = ⊎_elim (λ (e : j ≡ i). ap (bit_at wider) e ∙ here) (λ n. others j n ∙ b) (cases_eq j i)
+pub within-more : (one other : List ℕ) (i : ℕ) → bit_at other i ≡ 1 → ((j : ℕ) → (j ≢ i) → bit_at other j ≡ bit_at one j) → Within one other
+within-more one other i here others j b = ⊎_elim (λ (e : j ≡ i). ap (bit_at other) e ∙ here) (λ n. others j n ∙ b) (cases_eq j i)
+
+pub within-itself : (one : List ℕ) → Within one one
+within-itself one j b = b
+
+-- a literal more is in both
+pub within-both : (gone one other : List ℕ) (i : ℕ) → bit_at other i ≡ 1 → ((j : ℕ) → (j ≢ i) → bit_at one j ≡ bit_at gone j) → ((j : ℕ) → (j ≢ i) → bit_at other j ≡ bit_at gone j) → Within one other
+within-both gone one other i here there others j b = ⊎_elim (λ (e : j ≡ i). ap (bit_at other) e ∙ here) (λ n. others j n ∙ sym (there j n) ∙ b) (cases_eq j i)
+
+-- a choice outside a set is outside what is within it
+pub chooses-within : (gone out : List ℕ) (one other : List Word) (choice : ℕ → ℕ) → Within gone out → ChoosesOutside out one other choice → ChoosesOutside gone one other choice
+chooses-within gone out one other choice w c = (c.0, λ i h. let d = c.1 i h in (d.0, not-within gone out w (choice i) d.1, d.2))

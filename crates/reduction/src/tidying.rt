@@ -4,7 +4,7 @@ ghost use Rattle.bounded.specs.Elems.{elems};
 ghost use Rattle.clauses.specs.Clauses.{literals_at};
 ghost use Rattle.subsume.specs.Bits.{bit_at};
 ghost use Rattle.subsume.specs.Choices.{Picked, pick, picked};
-ghost use Rattle.subsume.specs.Solving.{SparedHolding};
+ghost use Rattle.subsume.specs.Solving.{SparedOutside};
 ghost use Rattle.term.specs.Matched.{Below};
 ghost use Rattle.reduction.specs.Tidyings.{Inside, Standing, Turned, Passed, Taken, Leaves};
 
@@ -45,25 +45,28 @@ impl Decided {
         requires variables { Below V table.now.literals.nodes.now × (V ≤ 65536) }
         requires picked { Picked start.old.sets (length table.now.literals.starts.now) (length table.now.targets.starts.now) start.old.picks }
         requires none { (k : ℕ) → pick start.old.picks k ≡ None }
-        requires spared { SparedHolding table.now.literals.nodes.now table.now.literals.starts.now table.now.targets.nodes.now table.now.targets.starts.now self.old.held.words start.old.sets }
+        requires spared { SparedOutside table.now.literals.nodes.now table.now.literals.starts.now table.now.targets.nodes.now table.now.targets.starts.now self.old.held.words self.old.gone.words start.old.sets }
         requires inside { Inside (length table.now.targets.nodes.now) self.old }
         requires standing { Standing table.now.targets.nodes.now (literals_at table.now.targets.nodes.now table.now.targets.starts.now) mapped.now.words (literals_at table.now.literals.nodes.now table.now.literals.starts.now) i self.old }
         ensures picked { Picked start.new.sets (length table.now.literals.starts.now) (length table.now.targets.starts.now) start.new.picks }
         ensures none { (k : ℕ) → pick start.new.picks k ≡ None }
-        ensures spared { SparedHolding table.now.literals.nodes.now table.now.literals.starts.now table.now.targets.nodes.now table.now.targets.starts.now self.new.held.words start.new.sets }
+        ensures spared { SparedOutside table.now.literals.nodes.now table.now.literals.starts.now table.now.targets.nodes.now table.now.targets.starts.now self.new.held.words self.new.gone.words start.new.sets }
         ensures inside { Inside (length table.now.targets.nodes.now) self.new }
         ensures turned { Turned table.now.targets.nodes.now (literals_at table.now.targets.nodes.now table.now.targets.starts.now) mapped.now.words (literals_at table.now.literals.nodes.now table.now.literals.starts.now) i result self.new }
     {
-        self.gone.include(i);
         if !mapped.test(i) {
+            self.gone.include(i);
             return Turn::On;
         }
+        table.strike_out(start, &self.gone);
+        let mut out = self.gone;
+        out.include(i);
         // Only the part of this literal can fail, since others can stay as they are.
         order.first = table.part_at(i);
-        if let Some(picks) = table.choose_outside::<V>(start, &self.gone, order) {
+        if let Some(picks) = table.choose_outside::<V>(start, &out, order) {
+            self.gone.include(i);
             return Turn::Shrunk(picks);
         }
-        self.gone.exclude(i);
         self.held.include(i);
         table.hold(start, i);
         match self.kept.push(table.targets.starts[i]) {
@@ -87,12 +90,17 @@ pub(super) enum Outcome<const N: usize> {
 }
 
 // Where a search begins: pruned, and the literals at the places in `held` are left where they are.
-fn start<const N: usize, const W: usize>(table: &Table<'_, N, W>, held: &BitSet<4>) -> State<N>
+fn start<const N: usize, const W: usize>(
+    table: &Table<'_, N, W>,
+    held: &BitSet<4>,
+    gone: &BitSet<4>,
+) -> State<N>
     ensures picked { Picked result.sets (length table.now.literals.starts.now) (length table.now.targets.starts.now) result.picks }
     ensures none { (k : ℕ) → pick result.picks k ≡ None }
-    ensures spared { SparedHolding table.now.literals.nodes.now table.now.literals.starts.now table.now.targets.nodes.now table.now.targets.starts.now held.now.words result.sets }
+    ensures spared { SparedOutside table.now.literals.nodes.now table.now.literals.starts.now table.now.targets.nodes.now table.now.targets.starts.now held.now.words gone.now.words result.sets }
 {
     let mut state = table.start();
+    table.strike_out(&mut state, gone);
     for j in 0..table.targets.len() {
         if held.test(j) {
             table.hold(&mut state, j);
@@ -116,7 +124,7 @@ fn pass<const N: usize, const V: usize, const W: usize>(
     ensures inside { Inside (length table.now.targets.nodes.now) decided.new }
     ensures passed { Passed table.now.targets.nodes.now (literals_at table.now.targets.nodes.now table.now.targets.starts.now) (literals_at table.now.literals.nodes.now table.now.literals.starts.now) at result decided.new }
 {
-    let mut state = start(table, &decided.held);
+    let mut state = start(table, &decided.held, &decided.gone);
     let mut order = Order::new();
     for i in at..table.targets.len() {
         match decided.turn::<N, V, W>(table, &mut state, &mut order, mapped, i) {

@@ -9,16 +9,20 @@ use Rattle.term.specs.Words.{Word, var, sub}
 use Rattle.term.specs.declared.node.Node.{Node}
 use Rattle.subsume.specs.declared.bits.BitSet.{BitSet}
 use Rattle.subsume.specs.declared.slot.Slot.{Slot}
-use Rattle.subsume.specs.Bits.{bit_at}
+use Rattle.subsume.specs.Bits.{bit_at, Within}
 use Rattle.subsume.specs.Choices.{left, row, pick, picked, Among, Fewer, Narrowed, Removed, Pruned, Picked, Made, Clear, Avoids}
 use Rattle.subsume.specs.Meeting.{place_of}
-use Rattle.subsume.specs.Solving.{TurnsAt, Works, Linked, Hopeful, SparedHolding, SparedOutside}
+use Rattle.subsume.specs.Solving.{TurnsAt, Works, Linked, Hopeful, SparedOutside}
 use Rattle.subsume.specs.FirstChoices.{Outside, ChoosesOutside}
 use Rattle.subsume.specs.Retracting.{Stays, Apart}
 use Rattle.subsume.proofs.Picking.{picked-fewer}
 use Rattle.subsume.proofs.Pruning.{row-set_same, row-set_other}
 use Rattle.subsume.proofs.Searching.{fits-works}
 use Rattle.subsume.proofs.Sets.{bit-below, bit-of_word, none-past, other-word}
+
+-- what is not in a set is in none within it
+pub not-within : (one other : List ℕ) → Within one other → (k : ℕ) → bit_at other k ≡ 0 → bit_at one k ≡ 0
+not-within one other h k e = ⊎_elim (λ (b : bit_at one k ≡ 1). absurd (omega (arith, e, h k b))) (λ b. omega (arith, b, bit-below one k)) (cases_eq (bit_at one k) 1)
 
 -- of the first w words, the bits in the set were struck out
 pub record Removing (gone before words : List ℕ) (w : ℕ) : Type 0 where
@@ -121,9 +125,9 @@ module _ (N : List Node) (S : List ℕ) (M : List Node) (T : List ℕ) (j : ℕ)
   held-picked picks f p = picked-fewer (length S) (length T) before after picks p (λ k l a b e. h.fewer k l a b (f k l a b e))
 
   pub held-spared : {C : ℕ} (slots : List (Slot C)) → Linked N S M T slots → Pruned slots (length S) (length T) mid after → j < length T
-      → (kept : List ℕ) → bit_at kept j ≡ 1 → SparedHolding N S M T kept before → SparedHolding N S M T kept after
-  held-spared slots linked p inside kept own spared f within w holds =
-      p.keeps f (λ x. place_of M (w.0 x)) (fits-works N S M T slots f linked within w)
+      → (kept gone : List ℕ) → bit_at kept j ≡ 1 → SparedOutside N S M T kept gone before → SparedOutside N S M T kept gone after
+  held-spared slots linked p inside kept gone own spared f within w holds =
+      p.keeps f (λ x. place_of M (w.0 x)) (fits-works N S M T slots f linked (λ k lt. (within k lt).0) w)
       (h.keeps f (spared f within w holds) (λ k lt e. holds k j lt inside own e))
 
 -- what is left then
@@ -141,10 +145,11 @@ module _ (N : List Node) (S : List ℕ) (M : List Node) (T : List ℕ) (gone : L
   }
 
   pub cut-spared : {C : ℕ} (slots : List (Slot C)) → Linked N S M T slots → Pruned slots (length S) (length T) mid after
-      → (kept : List ℕ) → SparedHolding N S M T kept before → SparedOutside N S M T kept gone after
-  cut-spared slots linked p kept spared f inside w holds =
+      → (kept was : List ℕ) → Within was gone → SparedOutside N S M T kept was before → SparedOutside N S M T kept gone after
+  cut-spared slots linked p kept was wider spared f inside w holds =
+      let early : (l : ℕ) → l < length S → (f l < length T) × (bit_at was (f l) ≡ 0) = λ l g. ((inside l g).0, not-within was gone wider (f l) (inside l g).1) in
       p.keeps f (λ x. place_of M (w.0 x)) (fits-works N S M T slots f linked (λ k h. (inside k h).0) w)
-      (λ k h. let a = spared f (λ l g. (inside l g).0) w holds k h in (a.0, (c.done k (omega arith)).kept (f k) a.1 (inside k h).1))
+      (λ k h. let a = spared f early w holds k h in (a.0, (c.done k (omega arith)).kept (f k) a.1 (inside k h).1))
 
 -- a choice of targets that are not gone, by the literals
 module _ (N : List Node) (S : List ℕ) (M : List Node) (T : List ℕ) (gone : List ℕ) where

@@ -10,5 +10,5 @@ mod Links
 pub mod Choosing
 mod Firsts
 mod Walking
-mod Avoiding
+pub mod Avoiding
 mod FirstPlaces

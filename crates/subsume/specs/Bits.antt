@@ -6,6 +6,10 @@ use Rattle.std.specs.Int.{bit_at as bit}
 unfoldable pub bit_at : List ℕ → (k : ℕ) → ℕ
 bit_at words k = bit (slice_index words (k / 64)) (k % 64)
 
+-- each number of the one set is in the other
+abbrev pub Within : (one other : List ℕ) → Type 0
+Within one other = (k : ℕ) → bit_at one k ≡ 1 → bit_at other k ≡ 1
+
 -- an answer is the least number in the set; or none, where the set is empty
 abbrev pub First : List ℕ → Option ℕ → Type 0
 First words (Some k) = (k < 64 * length words) × (bit_at words k ≡ 1) × ((l : ℕ) → l < k → bit_at words l ≡ 0)

@@ -68,11 +68,7 @@ module _ (N : List Node) (S : List ℕ) (M : List Node) (T : List ℕ) where
   abbrev pub Holds : (kept : List ℕ) → (ℕ → ℕ) → Type 0
   Holds kept f = (i j : ℕ) → i < length S → j < length T → bit_at kept j ≡ 1 → slice_index S i ≡ slice_index T j → f i ≡ j
 
-  -- each choice that works and leaves these where they are is left
-  abbrev pub SparedHolding : (kept : List ℕ) → List (BitSet 4) → Type 0
-  SparedHolding kept sets = (f : ℕ → ℕ) → ((i : ℕ) → i < length S → f i < length T) → Works f → Holds kept f → Among sets (length S) (length T) f
-
-  -- the same, of those that take no target of another set
+  -- each choice that works, takes none of the targets that are gone and leaves these where they are is left
   abbrev pub SparedOutside : (kept gone : List ℕ) → List (BitSet 4) → Type 0
   SparedOutside kept gone sets =
       (f : ℕ → ℕ) → ((i : ℕ) → i < length S → (f i < length T) × (bit_at gone (f i) ≡ 0)) → Works f → Holds kept f → Among sets (length S) (length T) f

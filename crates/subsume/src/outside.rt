@@ -1,27 +1,30 @@
 // Choices that take none of some targets: those that are gone; and literals that are held where they are.
-ghost use Rattle.std.specs.Prelude.{◌≡◌, ℕ, List, ◌-◌, ◌<◌, ◌≤◌, min, None, length, All, MatchOption};
+ghost use Rattle.std.specs.Prelude.{◌≡◌, ℕ, List, ◌-◌, ◌<◌, ◌≤◌, min, None, length, All, MatchOption, Decides, ◌≢◌};
 ghost use Rattle.std.specs.Int.{bit_at as bit};
-ghost use Rattle.subsume.specs.Bits.{bit_at};
+ghost use Rattle.subsume.specs.Bits.{bit_at, Within};
 ghost use Rattle.subsume.specs.Choices.{Removed, Picked, Clear, pick, picked};
 ghost use Rattle.clauses.specs.Clauses.{literals_at};
 ghost use Rattle.term.specs.Matched.{Below};
 ghost use Rattle.term.specs.Words.{Word, sub};
 ghost use Rattle.subsume.specs.FirstChoices.{Outside, ChoosesOutside};
 ghost use Rattle.subsume.specs.Retracting.{Stays, Apart};
-ghost use Rattle.subsume.specs.Solving.{SparedHolding, SparedOutside};
+ghost use Rattle.subsume.specs.Solving.{SparedOutside};
 
 use super::bits::BitSet;
 use super::search::{Order, narrow};
 use super::state::State;
 use super::table::Table;
 
-// Strikes out the targets that are gone.
-fn remove(left: &mut BitSet<4>, gone: &BitSet<4>)
-    ensures { Removed gone.now.words left.old.words left.new.words }
+// Strikes out the targets that are gone; says whether there were any.
+fn remove(left: &mut BitSet<4>, gone: &BitSet<4>) -> bool
+    ensures removed { Removed gone.now.words left.old.words left.new.words }
+    ensures struck { Decides result (left.new.words ≢ left.old.words) }
 {
+    let before = left.words;
     for w in 0..4 {
         left.words[w] = minus(left.words[w], gone.words[w]);
     }
+    left.words != before
 }
 
 // The bits of a word that another has not.
@@ -38,7 +41,7 @@ impl<const N: usize, const W: usize> Table<'_, N, W> {
         requires picked { Picked state.old.sets (length self.now.literals.starts.now) (length self.now.targets.starts.now) state.old.picks }
         ensures picked { Picked state.new.sets (length self.now.literals.starts.now) (length self.now.targets.starts.now) state.new.picks }
         ensures picks { state.new.picks ≡ state.old.picks }
-        ensures spared { (kept : List ℕ) → bit_at kept j ≡ 1 → SparedHolding self.now.literals.nodes.now self.now.literals.starts.now self.now.targets.nodes.now self.now.targets.starts.now kept state.old.sets → SparedHolding self.now.literals.nodes.now self.now.literals.starts.now self.now.targets.nodes.now self.now.targets.starts.now kept state.new.sets }
+        ensures spared { (kept gone : List ℕ) → bit_at kept j ≡ 1 → SparedOutside self.now.literals.nodes.now self.now.literals.starts.now self.now.targets.nodes.now self.now.targets.starts.now kept gone state.old.sets → SparedOutside self.now.literals.nodes.now self.now.literals.starts.now self.now.targets.nodes.now self.now.targets.starts.now kept gone state.new.sets }
     {
         let mut queue = BitSet::<W>::new();
         for i in 0..self.literals.len() {
@@ -50,25 +53,23 @@ impl<const N: usize, const W: usize> Table<'_, N, W> {
         self.prune(&mut state.sets, queue);
     }
 
-    // The state before a choice is made, without the targets that are gone.
-    fn without(&self, start: &State<N>, gone: &BitSet<4>) -> State<N>
-        requires picked { Picked start.now.sets (length self.now.literals.starts.now) (length self.now.targets.starts.now) start.now.picks }
-        requires none { (i : ℕ) → i < length self.now.literals.starts.now → pick start.now.picks i ≡ None }
-        ensures picked { Picked result.sets (length self.now.literals.starts.now) (length self.now.targets.starts.now) result.picks }
-        ensures clear { Clear gone.now.words result.sets (length self.now.literals.starts.now) (length self.now.targets.starts.now) result.picks }
-        ensures spared { (kept : List ℕ) → SparedHolding self.now.literals.nodes.now self.now.literals.starts.now self.now.targets.nodes.now self.now.targets.starts.now kept start.now.sets → SparedOutside self.now.literals.nodes.now self.now.literals.starts.now self.now.targets.nodes.now self.now.targets.starts.now kept gone.now.words result.sets }
+    // Takes the targets that are gone from all literals.
+    pub fn strike_out(&self, state: &mut State<N>, gone: &BitSet<4>)
+        requires picked { Picked state.old.sets (length self.now.literals.starts.now) (length self.now.targets.starts.now) state.old.picks }
+        requires none { (i : ℕ) → i < length self.now.literals.starts.now → pick state.old.picks i ≡ None }
+        ensures picked { Picked state.new.sets (length self.now.literals.starts.now) (length self.now.targets.starts.now) state.new.picks }
+        ensures picks { state.new.picks ≡ state.old.picks }
+        ensures clear { Clear gone.now.words state.new.sets (length self.now.literals.starts.now) (length self.now.targets.starts.now) state.new.picks }
+        ensures spared { (kept before : List ℕ) → Within before gone.now.words → SparedOutside self.now.literals.nodes.now self.now.literals.starts.now self.now.targets.nodes.now self.now.targets.starts.now kept before state.old.sets → SparedOutside self.now.literals.nodes.now self.now.literals.starts.now self.now.targets.nodes.now self.now.targets.starts.now kept gone.now.words state.new.sets }
     {
-        let mut sets = start.sets;
         let mut queue = BitSet::<W>::new();
         for i in 0..self.literals.len() {
-            remove(&mut sets[i], gone);
-            self.enqueue(i, &mut queue);
+            // What loses nothing need not be looked at again.
+            if remove(&mut state.sets[i], gone) {
+                self.enqueue(i, &mut queue);
+            }
         }
-        self.prune(&mut sets, queue);
-        State {
-            sets,
-            picks: start.picks,
-        }
+        self.prune(&mut state.sets, queue);
     }
 
     // A choice that works, of targets that are not gone; or none, where there is no such choice that leaves the literals where
@@ -83,9 +84,14 @@ impl<const N: usize, const W: usize> Table<'_, N, W> {
         requires variables { Below V self.now.literals.nodes.now × (V ≤ 65536) }
         requires picked { Picked start.now.sets (length self.now.literals.starts.now) (length self.now.targets.starts.now) start.now.picks }
         requires none { (i : ℕ) → i < length self.now.literals.starts.now → pick start.now.picks i ≡ None }
-        ensures { (kept : List ℕ) → SparedHolding self.now.literals.nodes.now self.now.literals.starts.now self.now.targets.nodes.now self.now.targets.starts.now kept start.now.sets → Apart kept gone.now.words (literals_at self.now.targets.nodes.now self.now.targets.starts.now) → MatchOption result ((θ : ℕ → Word) → All (λ l. Outside gone.now.words (literals_at self.now.targets.nodes.now self.now.targets.starts.now) (sub θ l)) (literals_at self.now.literals.nodes.now self.now.literals.starts.now) → Stays kept (literals_at self.now.targets.nodes.now self.now.targets.starts.now) θ → ⊥) (λ picks. ChoosesOutside gone.now.words (literals_at self.now.literals.nodes.now self.now.literals.starts.now) (literals_at self.now.targets.nodes.now self.now.targets.starts.now) (picked picks)) }
+        ensures { (kept before : List ℕ) → Within before gone.now.words → SparedOutside self.now.literals.nodes.now self.now.literals.starts.now self.now.targets.nodes.now self.now.targets.starts.now kept before start.now.sets → Apart kept gone.now.words (literals_at self.now.targets.nodes.now self.now.targets.starts.now) → MatchOption result ((θ : ℕ → Word) → All (λ l. Outside gone.now.words (literals_at self.now.targets.nodes.now self.now.targets.starts.now) (sub θ l)) (literals_at self.now.literals.nodes.now self.now.literals.starts.now) → Stays kept (literals_at self.now.targets.nodes.now self.now.targets.starts.now) θ → ⊥) (λ picks. ChoosesOutside gone.now.words (literals_at self.now.literals.nodes.now self.now.literals.starts.now) (literals_at self.now.targets.nodes.now self.now.targets.starts.now) (picked picks)) }
     {
-        self.search::<V>(self.without(start, gone), order)
+        let mut state = State {
+            sets: start.sets,
+            picks: start.picks,
+        };
+        self.strike_out(&mut state, gone);
+        self.search::<V>(state, order)
     }
 
     // The literals that hang together by variables that they share with one that begins where the target `j` does. It is for

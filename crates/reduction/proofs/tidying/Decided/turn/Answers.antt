@@ -6,8 +6,15 @@ use Rattle.clauses.specs.Clauses.{literals_at}
 use Rattle.subsume.specs.Choices.{picked}
 use Rattle.subsume.proofs.Sets.{absent}
 use Rattle.reduction.specs.Progress.{Progress, Image}
-use Rattle.reduction.proofs.Turning.{free-progress, free-stays, spare-progress, spare-next, none-left, apart, needed-more, needed-image, needed-full, still-spared, still-held}
+use Rattle.reduction.proofs.Turning.{free-progress, free-stays, spare-progress, spare-next, none-left, apart, needed-more, needed-image, needed-full, still-spared, within-more, within-itself, within-both, chooses-within}
 use Rattle.reduction.proofs.tidying.Decided.turn.Goals as goal
+
+pub returns-then-not-test-clause-spared : goal.returns-then-not-test-clause-spared
+returns-then-not-test-clause-spared g c =
+    let t = c.args.table.now in
+    let d = c.args.self.now in
+    still-spared t.literals.nodes.now t.literals.starts.now t.targets.nodes.now t.targets.starts.now c.args.start.now.sets d.held.words d.held.words d.gone.words c.include.new.self.words
+    (within-itself d.held.words) (within-more d.gone.words c.include.new.self.words c.args.i c.include.ensures.here c.include.ensures.others) c.requires.spared
 
 pub returns-then-not-test-clause-turned : goal.returns-then-not-test-clause-turned
 returns-then-not-test-clause-turned g c =
@@ -22,18 +29,32 @@ returns-then-not-test-clause-turned g c =
       image = free-stays a.nodes.now a.starts.now (elems d.kept) c.args.i c.requires.literal d.held.words d.gone.words c.args.mapped.now.words I s.progress s.image c.include.new.self.words c.include.ensures.here c.include.ensures.others out;
     }
 
+pub returns-in-Some-clause-spared : goal.returns-in-Some-clause-spared
+returns-in-Some-clause-spared g c =
+    let t = c.args.table.now in
+    let d = c.args.self.now in
+    let after = c.include-in-Some.new.self.words in
+    still-spared t.literals.nodes.now t.literals.starts.now t.targets.nodes.now t.targets.starts.now c.strike_out.new.state.sets d.held.words d.held.words d.gone.words after
+    (within-itself d.held.words) (within-more d.gone.words after c.args.i c.include-in-Some.ensures.here c.include-in-Some.ensures.others)
+    (c.strike_out.ensures.spared d.held.words d.gone.words (within-itself d.gone.words) c.requires.spared)
+
 pub returns-in-Some-clause-turned : goal.returns-in-Some-clause-turned
 returns-in-Some-clause-turned g c =
     let a = c.args.table.now.targets in
     let t = c.args.table.now in
+    let C = literals_at a.nodes.now a.starts.now in
     let I = literals_at t.literals.nodes.now t.literals.starts.now in
     let s = c.requires.standing in
     let d = c.args.self.now in
+    let out = c.include-2.new.self.words in
+    let after = c.include-in-Some.new.self.words in
     let choice = picked c.in-Some.picks in
-    let away = apart a.nodes.now a.starts.now (elems d.kept) c.args.i c.requires.literal d.held.words d.gone.words c.args.mapped.now.words I s.progress s.image c.include.new.self.words c.include.ensures.here c.include.ensures.others in
-    let chosen = c.in-Some.ensures d.held.words c.requires.spared away in (
-      spare-progress a.nodes.now a.starts.now (elems d.kept) c.args.i c.requires.literal d.held.words d.gone.words c.args.mapped.now.words I s.progress s.image c.include.new.self.words c.include.ensures.here c.include.ensures.others choice chosen,
-      spare-next a.nodes.now a.starts.now (elems d.kept) c.args.i c.requires.literal d.held.words d.gone.words c.args.mapped.now.words I s.progress s.image c.include.new.self.words c.include.ensures.here c.include.ensures.others choice chosen,
+    let away = apart a.nodes.now a.starts.now (elems d.kept) c.args.i c.requires.literal d.held.words d.gone.words c.args.mapped.now.words I s.progress s.image out c.include-2.ensures.here c.include-2.ensures.others in
+    let left = c.strike_out.ensures.spared d.held.words d.gone.words (within-itself d.gone.words) c.requires.spared in
+    let found = c.in-Some.ensures d.held.words d.gone.words (within-more d.gone.words out c.args.i c.include-2.ensures.here c.include-2.ensures.others) left away in
+    let chosen = chooses-within after out I C choice (within-both d.gone.words after out c.args.i c.include-2.ensures.here c.include-in-Some.ensures.others c.include-2.ensures.others) found in (
+      spare-progress a.nodes.now a.starts.now (elems d.kept) c.args.i c.requires.literal d.held.words d.gone.words c.args.mapped.now.words I s.progress s.image after c.include-in-Some.ensures.here c.include-in-Some.ensures.others choice chosen,
+      spare-next a.nodes.now a.starts.now (elems d.kept) c.args.i c.requires.literal d.held.words d.gone.words c.args.mapped.now.words I s.progress s.image after c.include-in-Some.ensures.here c.include-in-Some.ensures.others choice chosen,
       λ k h. (chosen.1 k h).0,
     )
 
@@ -46,41 +67,43 @@ returns-in-Ok-clause-inside g c =
 pub returns-in-Ok-clause-spared : goal.returns-in-Ok-clause-spared
 returns-in-Ok-clause-spared g c =
     let t = c.args.table.now in
-    let held = c.args.self.now.held.words in
-    let more = c.include-2.new.self.words in
-    c.hold.ensures.spared more c.include-2.ensures.here
-    (still-spared t.literals.nodes.now t.literals.starts.now t.targets.nodes.now t.targets.starts.now c.args.start.now.sets held more
-    (still-held held more c.args.i c.include-2.ensures.here c.include-2.ensures.others) c.requires.spared)
+    let d = c.args.self.now in
+    let more = c.include-3.new.self.words in
+    c.hold.ensures.spared more d.gone.words c.include-3.ensures.here
+    (still-spared t.literals.nodes.now t.literals.starts.now t.targets.nodes.now t.targets.starts.now c.strike_out.new.state.sets d.held.words more d.gone.words d.gone.words
+    (within-more d.held.words more c.args.i c.include-3.ensures.here c.include-3.ensures.others) (within-itself d.gone.words)
+    (c.strike_out.ensures.spared d.held.words d.gone.words (within-itself d.gone.words) c.requires.spared))
 
 pub returns-in-Err-clause-spared : goal.returns-in-Err-clause-spared
 returns-in-Err-clause-spared g c =
     let t = c.args.table.now in
-    let held = c.args.self.now.held.words in
-    let more = c.include-2.new.self.words in
-    c.hold.ensures.spared more c.include-2.ensures.here
-    (still-spared t.literals.nodes.now t.literals.starts.now t.targets.nodes.now t.targets.starts.now c.args.start.now.sets held more
-    (still-held held more c.args.i c.include-2.ensures.here c.include-2.ensures.others) c.requires.spared)
+    let d = c.args.self.now in
+    let more = c.include-3.new.self.words in
+    c.hold.ensures.spared more d.gone.words c.include-3.ensures.here
+    (still-spared t.literals.nodes.now t.literals.starts.now t.targets.nodes.now t.targets.starts.now c.strike_out.new.state.sets d.held.words more d.gone.words d.gone.words
+    (within-more d.held.words more c.args.i c.include-3.ensures.here c.include-3.ensures.others) (within-itself d.gone.words)
+    (c.strike_out.ensures.spared d.held.words d.gone.words (within-itself d.gone.words) c.requires.spared))
 
 pub returns-in-Ok-clause-turned : goal.returns-in-Ok-clause-turned
 returns-in-Ok-clause-turned g c =
     let a = c.args.table.now.targets in
     let t = c.args.table.now in
+    let C = literals_at a.nodes.now a.starts.now in
     let I = literals_at t.literals.nodes.now t.literals.starts.now in
     let s = c.requires.standing in
     let d = c.args.self.now in
-    let held = c.include-2.new.self.words in
-    let away = apart a.nodes.now a.starts.now (elems d.kept) c.args.i c.requires.literal d.held.words d.gone.words c.args.mapped.now.words I s.progress s.image c.include.new.self.words c.include.ensures.here c.include.ensures.others in
-    let none = none-left a.nodes.now a.starts.now (elems d.kept) c.args.i c.requires.literal d.held.words d.gone.words c.args.mapped.now.words I s.progress s.image c.include.new.self.words c.include.ensures.here c.include.ensures.others
-    (c.in_default.ensures d.held.words c.requires.spared away) in
-    let C = literals_at a.nodes.now a.starts.now in
+    let held = c.include-3.new.self.words in
+    let out = c.include-2.new.self.words in
+    let away = apart a.nodes.now a.starts.now (elems d.kept) c.args.i c.requires.literal d.held.words d.gone.words c.args.mapped.now.words I s.progress s.image out c.include-2.ensures.here c.include-2.ensures.others in
+    let left = c.strike_out.ensures.spared d.held.words d.gone.words (within-itself d.gone.words) c.requires.spared in
+    let none = none-left a.nodes.now a.starts.now (elems d.kept) c.args.i c.requires.literal d.held.words d.gone.words c.args.mapped.now.words I s.progress s.image out c.include-2.ensures.here c.include-2.ensures.others
+    (c.in_default.ensures d.held.words d.gone.words (within-more d.gone.words out c.args.i c.include-2.ensures.here c.include-2.ensures.others) left away) in
     let e = sym c.in-Ok.ensures.1 in
     record {
-      progress = subst (λ (l : List ℕ). Progress C (c.args.i + 1) (literals_at a.nodes.now l) held c.exclude.new.self.words) e
-          (needed-more a.nodes.now a.starts.now (elems d.kept) c.args.i c.requires.literal d.held.words d.gone.words c.args.mapped.now.words I s.progress s.image c.include.new.self.words c.include.ensures.here c.include.ensures.others
-          c.exclude.new.self.words held c.exclude.ensures.here c.exclude.ensures.others c.include-2.ensures.others none);
-      image = subst (λ (l : List ℕ). Image C (literals_at a.nodes.now l ++ drop (c.args.i + 1) C) c.args.mapped.now.words c.exclude.new.self.words I) e
-          (needed-image a.nodes.now a.starts.now (elems d.kept) c.args.i c.requires.literal d.held.words d.gone.words c.args.mapped.now.words I s.progress s.image c.include.new.self.words c.include.ensures.here c.include.ensures.others
-          c.exclude.new.self.words held c.exclude.ensures.here c.exclude.ensures.others c.include-2.ensures.others none);
+      progress = subst (λ (l : List ℕ). Progress C (c.args.i + 1) (literals_at a.nodes.now l) held d.gone.words) e
+          (needed-more a.nodes.now a.starts.now (elems d.kept) c.args.i c.requires.literal d.held.words d.gone.words c.args.mapped.now.words I s.progress s.image out c.include-2.ensures.here c.include-2.ensures.others held c.include-3.ensures.others none);
+      image = subst (λ (l : List ℕ). Image C (literals_at a.nodes.now l ++ drop (c.args.i + 1) C) c.args.mapped.now.words d.gone.words I) e
+          (needed-image a.nodes.now a.starts.now (elems d.kept) c.args.i c.requires.literal d.held.words d.gone.words c.args.mapped.now.words I s.progress s.image out c.include-2.ensures.here c.include-2.ensures.others held c.include-3.ensures.others none);
     }
 
 pub returns-in-Err-clause-turned : goal.returns-in-Err-clause-turned
@@ -90,9 +113,10 @@ returns-in-Err-clause-turned g c =
     let I = literals_at t.literals.nodes.now t.literals.starts.now in
     let s = c.requires.standing in
     let d = c.args.self.now in
-    let away = apart a.nodes.now a.starts.now (elems d.kept) c.args.i c.requires.literal d.held.words d.gone.words c.args.mapped.now.words I s.progress s.image c.include.new.self.words c.include.ensures.here c.include.ensures.others in
-    let none = none-left a.nodes.now a.starts.now (elems d.kept) c.args.i c.requires.literal d.held.words d.gone.words c.args.mapped.now.words I s.progress s.image c.include.new.self.words c.include.ensures.here c.include.ensures.others
-    (c.in_default.ensures d.held.words c.requires.spared away) in
-    needed-full a.nodes.now a.starts.now (elems d.kept) c.args.i c.requires.literal d.held.words d.gone.words c.args.mapped.now.words I s.progress s.image c.include.new.self.words c.include.ensures.here c.include.ensures.others
-    c.exclude.new.self.words c.include-2.new.self.words c.exclude.ensures.here c.exclude.ensures.others c.include-2.ensures.others none
+    let out = c.include-2.new.self.words in
+    let away = apart a.nodes.now a.starts.now (elems d.kept) c.args.i c.requires.literal d.held.words d.gone.words c.args.mapped.now.words I s.progress s.image out c.include-2.ensures.here c.include-2.ensures.others in
+    let left = c.strike_out.ensures.spared d.held.words d.gone.words (within-itself d.gone.words) c.requires.spared in
+    let none = none-left a.nodes.now a.starts.now (elems d.kept) c.args.i c.requires.literal d.held.words d.gone.words c.args.mapped.now.words I s.progress s.image out c.include-2.ensures.here c.include-2.ensures.others
+    (c.in_default.ensures d.held.words d.gone.words (within-more d.gone.words out c.args.i c.include-2.ensures.here c.include-2.ensures.others) left away) in
+    needed-full a.nodes.now a.starts.now (elems d.kept) c.args.i c.requires.literal d.held.words d.gone.words c.args.mapped.now.words I s.progress s.image out c.include-2.ensures.here c.include-2.ensures.others c.include-3.new.self.words c.include-3.ensures.others none
     c.in-Err.ensures.0
