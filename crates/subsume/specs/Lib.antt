@@ -5,3 +5,4 @@ pub mod Solving
 pub mod Steps
 pub mod FirstChoices
 pub mod Ending
+pub mod Retracting

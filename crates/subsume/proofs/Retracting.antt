@@ -1,0 +1,115 @@
+-- What a look-out finds: variables that must move, and literals that are not reached.
+use Rattle.std.proofs.Common.{◌≡◌, ℕ, ◌+◌, ◌-◌, ◌*◌, ◌<◌, ◌≤◌, min, List, length, get_or, Bool, true, false, Contains, sym, ap, ap₂, ◌∙◌, subst, refl, ⊎_elim, ◌≢◌, arith}
+use Rattle.std.specs.Int.{bit_at as bit}
+use Rattle.std.proofs.lemmas.Bool.{cases_lt}
+use Rattle.std.proofs.lemmas.List.{get_or-map, get_or_default, length-map}
+use Rattle.std.proofs.lemmas.List.Elements.{Contains-get_or}
+use Rattle.clauses.specs.Clauses.{literals_at}
+use Rattle.term.specs.Coding.{word_at}
+use Rattle.term.specs.Words.{Word, var, sub}
+use Rattle.term.specs.declared.node.Node.{Node}
+use Rattle.term.proofs.Substitutions.{sub-var}
+use Rattle.subsume.specs.declared.slot.Slot.{Slot}
+use Rattle.subsume.specs.Bits.{bit_at}
+use Rattle.subsume.specs.Choices.{no_slot, slot_at}
+use Rattle.subsume.specs.Meeting.{place_of}
+use Rattle.subsume.specs.Retracting.{Retracts, Spares, Moves, Apart}
+use Rattle.subsume.specs.Solving.{TurnsAt, Named, Linked, OpenAt}
+use Rattle.subsume.proofs.Sets.{bit-of_word}
+
+module _ (N : List Node) (S : List ℕ) (M : List Node) (T : List ℕ) where
+  -- what the table says of a slot that stands in it
+  pub linked-slot : {K : ℕ} (slots : List (Slot K)) (slot : Slot K) → Linked N S M T slots → Contains slots slot → (slot.literal < length S) × Named N S M T slot.literal slot.variable slot.labels
+  linked-slot {K} slots slot linked c =
+      let P : Slot K → Type 0 = λ (z : Slot K). (z.literal < length S) × Named N S M T z.literal z.variable z.labels in
+      subst P (get_or_default slots c.0 (no_slot K) slot c.1 ∙ c.2) (linked c.0 c.1)
+
+  -- of the targets before the word w, each that is left and not gone gives the variable another label
+  abbrev pub Others : (left gone : List ℕ) (i x label w : ℕ) → Type 0
+  Others left gone i x label w = (j : ℕ) → j < 64 * w → j < length T → bit_at left j ≡ 1 → bit_at gone j ≡ 0 → Apart N S M T i x j label
+
+  pub others-more : (left gone : List ℕ) (i x label w word : ℕ) → ((k : ℕ) → k < 64 → bit word k ≡ min (bit (get_or left w 0) k) (1 - bit (get_or gone w 0) k))
+      → ((k : ℕ) → bit word k ≡ 1 → 64 * w + k < length T → Apart N S M T i x (64 * w + k) label)
+      → Others left gone i x label w → Others left gone i x label (w + 1)
+  others-more left gone i x label w word both here before j h inside b g =
+      ⊎_elim
+      (λ (early : j < 64 * w). before j early inside b g)
+      (λ late.
+      let k : ℕ = j - 64 * w in
+      let is : j ≡ 64 * w + k = omega (arith, late) in
+      let small : k < 64 = omega (arith, h, late) in
+      let one : bit (get_or left w 0) k ≡ 1 = sym (bit-of_word left w k small) ∙ ap (bit_at left) (sym is) ∙ b in
+      let out : bit (get_or gone w 0) k ≡ 0 = sym (bit-of_word gone w k small) ∙ ap (bit_at gone) (sym is) ∙ g in
+      subst (λ (z : ℕ). Apart N S M T i x z label) (sym is) (here k (omega (arith, both k small, one, out)) (omega (arith, inside, is))))
+      (cases_lt j (64 * w))
+
+-- a literal that does not stay is not reached
+pub unreached : (kept gone after : List ℕ) (C : List Word) (i : ℕ) (θ : ℕ → Word) → i < length C → ((j : ℕ) → j ≢ i → bit_at after j ≡ bit_at gone j)
+    → (sub θ (get_or C i (var 0)) ≢ get_or C i (var 0)) → Retracts kept gone C θ → Retracts kept after C θ
+unreached kept gone after C i θ inside same leaves r = record {
+  into = λ k d h.
+      let l : Word = get_or C k d in
+      let o = r.into k d h in
+      let other : o.0 ≢ i = λ e.
+      let is : sub θ l ≡ get_or C i (var 0) = sym o.3 ∙ ap (λ (z : ℕ). get_or C z (sub θ l)) e ∙ get_or_default C i (sub θ l) (var 0) inside in
+      leaves (ap (sub θ) (sym is) ∙ r.once l (Contains-get_or C k d h) ∙ is) in
+      (o.0, o.1, same o.0 other ∙ o.2, o.3);
+  once = r.once;
+  stays = r.stays;
+}
+
+-- the table links a clause with itself
+module _ (N : List Node) (S : List ℕ) (M : List Node) (T : List ℕ) (nodes : N ≡ M) (starts : S ≡ T) where
+  abbrev C : List Word
+  C = literals_at M T
+
+  turns : (θ : ℕ → Word) (i j : ℕ) → sub θ (word_at M (get_or T i 0)) ≡ word_at M (get_or T j 0) → TurnsAt N S M T θ i j
+  turns θ i j e = ap₂ (λ (n : List Node) (s : List ℕ). sub θ (word_at n (get_or s i 0))) nodes starts ∙ e
+
+  literal : (i : ℕ) (d : Word) → i < length T → get_or C i d ≡ word_at M (get_or T i 0)
+  literal i d h = get_or-map (word_at M) T i 0 d h
+
+  pub turns-itself : (i : ℕ) → TurnsAt N S M T var i i
+  turns-itself i = turns var i i (sub-var (word_at M (get_or T i 0)))
+
+  -- a literal without support: its variable must move
+  pub unsupported : (left kept gone : List ℕ) (i x label w : ℕ) → i < length T → length T ≤ 64 * w → OpenAt N S M T i left → label ≡ place_of M (var x)
+      → Others N S M T left gone i x label w → Moves kept gone M T x
+  unsupported left kept gone i x label w inside all wide own others θ r e =
+      let o = r.into i (var 0) (omega (arith, length-map T (word_at M), inside)) in
+      let j : ℕ = o.0 in
+      let within : j < length T = omega (arith, length-map T (word_at M), o.1) in
+      let t : TurnsAt N S M T θ i j = turns θ i j (ap (sub θ) (sym (literal i (var 0) inside)) ∙ sym o.3 ∙ literal j (sub θ (get_or C i (var 0))) within) in
+      others j (omega (arith, within, all)) within (wide j within θ t) o.2 θ t (e ∙ sym own)
+
+  -- a variable that must move: its literals do not stay
+  leaves : (kept gone labels : List ℕ) (i x : ℕ) → i < length T → Named N S M T i x labels → Moves kept gone M T x
+      → (θ : ℕ → Word) → Retracts kept gone C θ → sub θ (get_or C i (var 0)) ≢ get_or C i (var 0)
+  leaves kept gone labels i x inside named moves θ r e =
+      let t : TurnsAt N S M T θ i i = turns θ i i (ap (sub θ) (sym (literal i (var 0) inside)) ∙ e ∙ literal i (var 0) inside) in
+      moves θ r (sym (named i inside θ t) ∙ named i inside var (turns-itself i))
+
+  -- a slot of a variable that must move: its literal is not reached, and if it is kept, there is no such substitution
+  module _ {K : ℕ} (slots : List (Slot K)) (x : ℕ) (slot : Slot K) (linked : Linked N S M T slots) (s : ℕ) (h : s < length slots) (is : slot_at slots s ≡ slot) (same : slot.variable ≡ x)
+      (kept first : List ℕ) (moves : Moves kept first M T x) where
+    own : (slot.literal < length S) × Named N S M T slot.literal slot.variable slot.labels
+    own = linked-slot N S M T slots slot linked (s, h, get_or_default slots s slot (no_slot K) h ∙ is)
+
+    inside : slot.literal < length T
+    inside = omega (arith, own.0, ap length starts)
+
+    slot-leaves : (θ : ℕ → Word) → Retracts kept first C θ → sub θ (get_or C slot.literal (var 0)) ≢ get_or C slot.literal (var 0)
+    slot-leaves = leaves kept first slot.labels slot.literal slot.variable inside own.1 (subst (Moves kept first M T) (sym same) moves)
+
+    pub kept-none : (after : List ℕ) → bit_at kept slot.literal ≡ 1 → Spares kept first after C false
+    kept-none after b θ r = absurd (slot-leaves θ r (r.stays slot.literal (omega (arith, length-map T (word_at M), inside)) b))
+
+    pub lost-more : (gone after : List ℕ) → Spares kept first gone C true → ((j : ℕ) → j ≢ slot.literal → bit_at after j ≡ bit_at gone j) → Spares kept first after C true
+    lost-more gone after spares others θ r =
+        (refl, unreached kept gone after C slot.literal θ (omega (arith, length-map T (word_at M), inside)) others (slot-leaves θ r) (spares θ r).1)
+
+-- one look after the other
+pub spares-then : (kept before mid after : List ℕ) (C : List Word) (answer last : Bool) → answer ≡ last → Spares kept before mid C true → Spares kept mid after C answer → Spares kept before after C last
+spares-then kept before mid after C answer last e first then θ r =
+    let s = then θ (first θ r).1 in
+    (sym e ∙ s.0, s.1)
