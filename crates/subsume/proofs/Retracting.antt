@@ -1,6 +1,7 @@
 -- What a look-out finds: variables that must move, and literals that are not reached.
-use Rattle.std.proofs.Common.{◌≡◌, ℕ, ◌+◌, ◌-◌, ◌*◌, ◌<◌, ◌≤◌, min, List, length, get_or, Bool, true, false, Contains, sym, ap, ap₂, ◌∙◌, subst, refl, ⊎_elim, ◌≢◌, arith}
-use Rattle.std.specs.Int.{bit_at as bit}
+use Rattle.std.proofs.Common.{◌≡◌, ℕ, ◌+◌, ◌-◌, ◌*◌, ◌^◌, ◌<◌, ◌≤◌, min, bit_and, List, length, get_or, Bool, true, false, Contains, sym, ap, ap₂, ◌∙◌, subst, refl, ⊎_elim, ◌≢◌, arith}
+use Rattle.std.specs.Int.{w64, bit_not, bit_at as bit}
+use Rattle.std.proofs.lemmas.Nat.Bits.{bit_at_and, bit_at_not, bit_at-zero}
 use Rattle.std.proofs.lemmas.Bool.{cases_lt}
 use Rattle.std.proofs.lemmas.List.{get_or-map, get_or_default, length-map}
 use Rattle.std.proofs.lemmas.List.Elements.{Contains-get_or}
@@ -15,7 +16,26 @@ use Rattle.subsume.specs.Choices.{no_slot, slot_at}
 use Rattle.subsume.specs.Meeting.{place_of}
 use Rattle.subsume.specs.Retracting.{Retracts, Spares, Moves, Apart}
 use Rattle.subsume.specs.Solving.{TurnsAt, Named, Linked, OpenAt}
-use Rattle.subsume.proofs.Sets.{bit-of_word}
+use Rattle.subsume.proofs.Sets.{bit-below, bit-of_word}
+
+-- the bits of a word that another has not
+bit-without : (word other k : ℕ) → other < 2 ^ 64 → k < 64 → bit (bit_and word (bit_not w64 other)) k ≡ min (bit word k) (1 - bit other k)
+bit-without word other k fits small = bit_at_and word (bit_not w64 other) k ∙ ap (min (bit word k)) (bit_at_not w64 other k fits small)
+
+-- a set within another, as far as the word w
+pub within-more : (one other : List ℕ) (w : ℕ) → get_or other w 0 < 2 ^ 64 → bit_and (get_or one w 0) (bit_not w64 (get_or other w 0)) ≡ 0
+    → ((k : ℕ) → k < 64 * w → bit_at one k ≡ 1 → bit_at other k ≡ 1) → (k : ℕ) → k < 64 * (w + 1) → bit_at one k ≡ 1 → bit_at other k ≡ 1
+within-more one other w fits none before k h b =
+    ⊎_elim
+    (λ (early : k < 64 * w). before k early b)
+    (λ late.
+    let m : ℕ = k - 64 * w in
+    let is : k ≡ 64 * w + m = omega (arith, late) in
+    let small : m < 64 = omega (arith, h, late) in
+    let here : (ws : List ℕ) → bit_at ws k ≡ bit (get_or ws w 0) m = λ ws. ap (bit_at ws) is ∙ bit-of_word ws w m small in
+    let both = bit-without (get_or one w 0) (get_or other w 0) m fits small in
+    omega (arith, b, here one, here other, both, ap (λ (z : ℕ). bit z m) none, bit_at-zero m, bit-below other k))
+    (cases_lt k (64 * w))
 
 module _ (N : List Node) (S : List ℕ) (M : List Node) (T : List ℕ) where
   -- what the table says of a slot that stands in it
@@ -28,19 +48,18 @@ module _ (N : List Node) (S : List ℕ) (M : List Node) (T : List ℕ) where
   abbrev pub Others : (left gone : List ℕ) (i x label w : ℕ) → Type 0
   Others left gone i x label w = (j : ℕ) → j < 64 * w → j < length T → bit_at left j ≡ 1 → bit_at gone j ≡ 0 → Apart N S M T i x j label
 
-  pub others-more : (left gone : List ℕ) (i x label w word : ℕ) → ((k : ℕ) → k < 64 → bit word k ≡ min (bit (get_or left w 0) k) (1 - bit (get_or gone w 0) k))
-      → ((k : ℕ) → bit word k ≡ 1 → 64 * w + k < length T → Apart N S M T i x (64 * w + k) label)
+  pub others-more : (left gone : List ℕ) (i x label w : ℕ) → get_or gone w 0 < 2 ^ 64
+      → ((k : ℕ) → bit (bit_and (get_or left w 0) (bit_not w64 (get_or gone w 0))) k ≡ 1 → 64 * w + k < length T → Apart N S M T i x (64 * w + k) label)
       → Others left gone i x label w → Others left gone i x label (w + 1)
-  others-more left gone i x label w word both here before j h inside b g =
+  others-more left gone i x label w fits here before j h inside b g =
       ⊎_elim
       (λ (early : j < 64 * w). before j early inside b g)
       (λ late.
       let k : ℕ = j - 64 * w in
       let is : j ≡ 64 * w + k = omega (arith, late) in
       let small : k < 64 = omega (arith, h, late) in
-      let one : bit (get_or left w 0) k ≡ 1 = sym (bit-of_word left w k small) ∙ ap (bit_at left) (sym is) ∙ b in
-      let out : bit (get_or gone w 0) k ≡ 0 = sym (bit-of_word gone w k small) ∙ ap (bit_at gone) (sym is) ∙ g in
-      subst (λ (z : ℕ). Apart N S M T i x z label) (sym is) (here k (omega (arith, both k small, one, out)) (omega (arith, inside, is))))
+      let place : (ws : List ℕ) → bit_at ws j ≡ bit (get_or ws w 0) k = λ ws. ap (bit_at ws) is ∙ bit-of_word ws w k small in
+      subst (λ (z : ℕ). Apart N S M T i x z label) (sym is) (here k (omega (arith, bit-without (get_or left w 0) (get_or gone w 0) k fits small, place left, place gone, b, g)) (omega (arith, inside, is))))
       (cases_lt j (64 * w))
 
 -- a literal that does not stay is not reached
@@ -72,15 +91,23 @@ module _ (N : List Node) (S : List ℕ) (M : List Node) (T : List ℕ) (nodes : 
   pub turns-itself : (i : ℕ) → TurnsAt N S M T var i i
   turns-itself i = turns var i i (sub-var (word_at M (get_or T i 0)))
 
+  -- the target that literal i is turned into
+  target : (kept gone : List ℕ) (i : ℕ) → i < length T → (θ : ℕ → Word) → Retracts kept gone C θ → (j : ℕ) × (j < length T) × (bit_at gone j ≡ 0) × TurnsAt N S M T θ i j
+  target kept gone i inside θ r =
+      let o = r.into i (var 0) (omega (arith, length-map T (word_at M), inside)) in
+      let within : o.0 < length T = omega (arith, length-map T (word_at M), o.1) in
+      (o.0, within, o.2, turns θ i o.0 (ap (sub θ) (sym (literal i (var 0) inside)) ∙ sym o.3 ∙ literal o.0 (sub θ (get_or C i (var 0))) within))
+
   -- a literal without support: its variable must move
   pub unsupported : (left kept gone : List ℕ) (i x label w : ℕ) → i < length T → length T ≤ 64 * w → OpenAt N S M T i left → label ≡ place_of M (var x)
       → Others N S M T left gone i x label w → Moves kept gone M T x
   unsupported left kept gone i x label w inside all wide own others θ r e =
-      let o = r.into i (var 0) (omega (arith, length-map T (word_at M), inside)) in
-      let j : ℕ = o.0 in
-      let within : j < length T = omega (arith, length-map T (word_at M), o.1) in
-      let t : TurnsAt N S M T θ i j = turns θ i j (ap (sub θ) (sym (literal i (var 0) inside)) ∙ sym o.3 ∙ literal j (sub θ (get_or C i (var 0))) within) in
-      others j (omega (arith, within, all)) within (wide j within θ t) o.2 θ t (e ∙ sym own)
+      let t = target kept gone i inside θ r in
+      others t.0 (omega (arith, t.1, all)) t.1 (wide t.0 t.1 θ t.3) t.2 θ t.3 (e ∙ sym own)
+
+  -- a literal without a candidate: there is no such substitution
+  pub spares-none : (left kept gone : List ℕ) (i : ℕ) → i < length T → OpenAt N S M T i left → ((j : ℕ) → bit_at left j ≡ 1 → bit_at gone j ≡ 1) → Spares kept gone gone C false
+  spares-none left kept gone i inside wide none θ r = let t = target kept gone i inside θ r in absurd (omega (arith, t.2, none t.0 (wide t.0 t.1 θ t.3)))
 
   -- a variable that must move: its literals do not stay
   leaves : (kept gone labels : List ℕ) (i x : ℕ) → i < length T → Named N S M T i x labels → Moves kept gone M T x

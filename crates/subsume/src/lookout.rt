@@ -13,6 +13,18 @@ use super::bits::{BitSet, part};
 use super::slot::Slot;
 use super::table::Table;
 
+// Whether each number of the one set is in the other.
+fn within(one: &BitSet<4>, other: &BitSet<4>) -> bool
+    ensures { result ≡ true → (k : ℕ) → bit_at one.now.words k ≡ 1 → bit_at other.now.words k ≡ 1 }
+{
+    for w in 0..4 {
+        if one.words[w] & !other.words[w] != 0 {
+            return false;
+        }
+    }
+    true
+}
+
 impl<const N: usize, const W: usize> Table<'_, N, W> {
     // The label that the target `j` gives the variable of a slot.
     fn label(&self, slot: &Slot<N>, j: usize) -> usize
@@ -163,6 +175,20 @@ impl<const N: usize, const W: usize> Table<'_, N, W> {
         true
     }
 
+    // Whether each literal has a candidate that is not gone. Where it says no, there is no such substitution.
+    fn each_has_candidate(&self, gone: &BitSet<4>) -> bool
+        requires { self.now.literals ≡ self.now.targets }
+        ensures { (kept : List ℕ) → Spares kept gone.now.words gone.now.words (literals_at self.now.targets.nodes.now self.now.targets.starts.now) result }
+    {
+        let candidates = &self.candidates;
+        for i in 0..self.literals.len() {
+            if within(&candidates[i], gone) {
+                return false;
+            }
+        }
+        true
+    }
+
     // Puts into `gone` further literals that no such substitution reaches, beginning at the variables of the literal `out`.
     // Says no where there is none.
     pub fn look_out(&self, kept: &BitSet<4>, gone: &mut BitSet<4>, out: usize) -> bool
@@ -184,6 +210,6 @@ impl<const N: usize, const W: usize> Table<'_, N, W> {
                 return false;
             }
         }
-        true
+        self.each_has_candidate(gone)
     }
 }

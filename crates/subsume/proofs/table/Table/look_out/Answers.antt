@@ -1,4 +1,4 @@
-use Rattle.std.proofs.Common.{true, false}
+use Rattle.std.proofs.Common.{true, false, refl}
 use Rattle.clauses.specs.Clauses.{literals_at}
 use Rattle.subsume.proofs.Retracting.{spares-then}
 use Rattle.subsume.proofs.table.Table.look_out.Goals as goal
@@ -15,3 +15,9 @@ loop-preserved g c =
       more = λ j b. c.look_from.ensures.more j (c.loop.invariant.more j b);
       spares = spares-then c.args.kept.now.words c.args.gone.now.words c.loop.gone.words c.look_from.new.gone.words (literals_at t.nodes.now t.starts.now) c.look_from.result true c.if-not-look_from.false c.loop.invariant.spares c.look_from.ensures.spares;
     }
+
+pub returns-clause-spares : goal.returns-clause-spares
+returns-clause-spares g c =
+    let t = c.args.self.now.targets in
+    let kept = c.args.kept.now.words in
+    spares-then kept c.args.gone.now.words c.loop.gone.words c.loop.gone.words (literals_at t.nodes.now t.starts.now) c.each_has_candidate.result c.each_has_candidate.result refl c.loop.invariant.spares (c.each_has_candidate.ensures kept)

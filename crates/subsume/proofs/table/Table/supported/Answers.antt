@@ -1,6 +1,4 @@
-use Rattle.std.proofs.Common.{◌<◌, ◌^◌, length, get_or, bit_and, min, ap, ap₂, sym, ◌∙◌, arith}
-use Rattle.std.specs.Int.{w64, bit_not, bit_at as bit}
-use Rattle.std.proofs.lemmas.Nat.Bits.{bit_at_and, bit_at_not}
+use Rattle.std.proofs.Common.{◌<◌, ◌^◌, length, get_or, ap, arith}
 use Rattle.term.specs.Words.{var}
 use Rattle.subsume.specs.Choices.{row}
 use Rattle.subsume.proofs.Pruning.{row-read}
@@ -15,16 +13,12 @@ loop-w-preserved g c =
     let M = t.targets.nodes.now in
     let T = t.targets.starts.now in
     let slot = c.args.slot.now in
-    let i = slot.literal in
     let w = c.loop-w.w in
     let gone = c.args.gone.now.words in
     let own = (linked-slot N S M T t.slots.now slot t.linked c.requires.slot).0 in
-    let open_at = row-read t.candidates i c.index-candidates-i.result (omega (arith, own, t.few.0, t.few.2, t.rows)) in
+    let same = row-read t.candidates slot.literal c.index-candidates-i.result (omega (arith, own, t.few.0, t.few.2, t.rows)) in
     let fits : get_or gone w 0 < 2 ^ 64 = omega arith in
-    let word = get_or (get_or t.candidates i c.index-candidates-i.result).words w 0 in
-    others-more N S M T (row t.candidates i) gone i slot.variable c.label-label.result w (bit_and word (bit_not w64 (get_or gone w 0)))
-    (λ k small. bit_at_and word (bit_not w64 (get_or gone w 0)) k ∙ ap₂ (λ a b. min a b) (ap (λ ws. bit (get_or ws w 0) k) (sym open_at)) (bit_at_not w64 (get_or gone w 0) k fits small))
-    (c.gives.ensures c.if-gives.false) c.loop-w.invariant
+    others-more N S M T (row t.candidates slot.literal) gone slot.literal slot.variable c.label-label.result w fits (rw same (c.gives.ensures c.if-gives.false)) c.loop-w.invariant
 
 pub returns : goal.returns
 returns g c =
