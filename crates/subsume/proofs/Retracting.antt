@@ -37,12 +37,16 @@ within-more one other w fits none before k h b =
     omega (arith, b, here one, here other, both, ap (λ (z : ℕ). bit z m) none, bit_at-zero m, bit-below other k))
     (cases_lt k (64 * w))
 
+pub stands-in : {K : ℕ} (slots : List (Slot K)) (slot : Slot K) (s : ℕ) → s < length slots → slot_at slots s ≡ slot → Contains slots slot
+stands-in {K} slots slot s h is = (s, h, get_or_default slots s slot (no_slot K) h ∙ is)
+
 module _ (N : List Node) (S : List ℕ) (M : List Node) (T : List ℕ) where
-  -- what the table says of a slot that stands in it
-  pub linked-slot : {K : ℕ} (slots : List (Slot K)) (slot : Slot K) → Linked N S M T slots → Contains slots slot → (slot.literal < length S) × Named N S M T slot.literal slot.variable slot.labels
-  linked-slot {K} slots slot linked c =
-      let P : Slot K → Type 0 = λ (z : Slot K). (z.literal < length S) × Named N S M T z.literal z.variable z.labels in
-      subst P (get_or_default slots c.0 (no_slot K) slot c.1 ∙ c.2) (linked c.0 c.1)
+  -- what the table says of a slot
+  abbrev pub Told : {K : ℕ} → Slot K → Type 0
+  Told slot = (slot.literal < length S) × Named N S M T slot.literal slot.variable slot.labels
+
+  pub told : {K : ℕ} (slots : List (Slot K)) (slot : Slot K) → Linked N S M T slots → Contains slots slot → Told slot
+  told {K} slots slot linked c = subst Told (get_or_default slots c.0 (no_slot K) slot c.1 ∙ c.2) (linked c.0 c.1)
 
   -- of the targets before the word w, each that is left and not gone gives the variable another label
   abbrev pub Others : (left gone : List ℕ) (i x label w : ℕ) → Type 0
@@ -109,31 +113,25 @@ module _ (N : List Node) (S : List ℕ) (M : List Node) (T : List ℕ) (nodes : 
   pub spares-none : (left kept gone : List ℕ) (i : ℕ) → i < length T → OpenAt N S M T i left → ((j : ℕ) → bit_at left j ≡ 1 → bit_at gone j ≡ 1) → Spares kept gone gone C false
   spares-none left kept gone i inside wide none θ r = let t = target kept gone i inside θ r in absurd (omega (arith, t.2, none t.0 (wide t.0 t.1 θ t.3)))
 
-  -- a variable that must move: its literals do not stay
-  leaves : (kept gone labels : List ℕ) (i x : ℕ) → i < length T → Named N S M T i x labels → Moves kept gone M T x
-      → (θ : ℕ → Word) → Retracts kept gone C θ → sub θ (get_or C i (var 0)) ≢ get_or C i (var 0)
-  leaves kept gone labels i x inside named moves θ r e =
-      let t : TurnsAt N S M T θ i i = turns θ i i (ap (sub θ) (sym (literal i (var 0) inside)) ∙ e ∙ literal i (var 0) inside) in
-      moves θ r (sym (named i inside θ t) ∙ named i inside var (turns-itself i))
-
-  -- a slot of a variable that must move: its literal is not reached, and if it is kept, there is no such substitution
-  module _ {K : ℕ} (slots : List (Slot K)) (x : ℕ) (slot : Slot K) (linked : Linked N S M T slots) (s : ℕ) (h : s < length slots) (is : slot_at slots s ≡ slot) (same : slot.variable ≡ x)
-      (kept first : List ℕ) (moves : Moves kept first M T x) where
-    own : (slot.literal < length S) × Named N S M T slot.literal slot.variable slot.labels
-    own = linked-slot N S M T slots slot linked (s, h, get_or_default slots s slot (no_slot K) h ∙ is)
-
+  -- the literal of a slot of a variable that must move is not reached, and where it is kept, there is no such substitution
+  module _ {K : ℕ} (slot : Slot K) (own : Told N S M T slot) (kept first : List ℕ) (moves : Moves kept first M T slot.variable) where
     inside : slot.literal < length T
     inside = omega (arith, own.0, ap length starts)
 
-    slot-leaves : (θ : ℕ → Word) → Retracts kept first C θ → sub θ (get_or C slot.literal (var 0)) ≢ get_or C slot.literal (var 0)
-    slot-leaves = leaves kept first slot.labels slot.literal slot.variable inside own.1 (subst (Moves kept first M T) (sym same) moves)
+    stands : slot.literal < length C
+    stands = omega (arith, length-map T (word_at M), inside)
+
+    leaves : (θ : ℕ → Word) → Retracts kept first C θ → sub θ (get_or C slot.literal (var 0)) ≢ get_or C slot.literal (var 0)
+    leaves θ r e =
+        let i = slot.literal in
+        let same = literal i (var 0) inside in
+        moves θ r (sym (own.1 i inside θ (turns θ i i (ap (sub θ) (sym same) ∙ e ∙ same))) ∙ own.1 i inside var (turns-itself i))
 
     pub kept-none : (after : List ℕ) → bit_at kept slot.literal ≡ 1 → Spares kept first after C false
-    kept-none after b θ r = absurd (slot-leaves θ r (r.stays slot.literal (omega (arith, length-map T (word_at M), inside)) b))
+    kept-none after b θ r = absurd (leaves θ r (r.stays slot.literal stands b))
 
     pub lost-more : (gone after : List ℕ) → Spares kept first gone C true → ((j : ℕ) → j ≢ slot.literal → bit_at after j ≡ bit_at gone j) → Spares kept first after C true
-    lost-more gone after spares others θ r =
-        (refl, unreached kept gone after C slot.literal θ (omega (arith, length-map T (word_at M), inside)) others (slot-leaves θ r) (spares θ r).1)
+    lost-more gone after spares others θ r = (refl, unreached kept gone after C slot.literal θ stands others (leaves θ r) (spares θ r).1)
 
 -- one look after the other
 pub spares-then : (kept before mid after : List ℕ) (C : List Word) (answer last : Bool) → answer ≡ last → Spares kept before mid C true → Spares kept mid after C answer → Spares kept before after C last

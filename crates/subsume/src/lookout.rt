@@ -1,4 +1,4 @@
-// A look-out before a search: literals that no substitution reaches which turns the clause into a part of itself.
+// A look-out before a search: literals that no substitution reaches that turns the clause into a part of itself.
 ghost use Rattle.std.specs.Prelude.{◌≡◌, ℕ, ◌+◌, ◌*◌, ◌<◌, List, length, false, true, option_copied, Contains, ◌≢◌};
 ghost use Rattle.std.specs.Int.{bit_at as bit};
 ghost use Rattle.clauses.specs.Clauses.{literals_at};
@@ -53,13 +53,15 @@ impl<const N: usize, const W: usize> Table<'_, N, W> {
         false
     }
 
-    // Whether the literal of a slot can be turned into one that is not gone by a substitution that leaves the variable.
+    // Whether the literal of a slot has support: a candidate that is not gone, and gives the slot's variable the label of the
+    // variable itself.
     fn supported(&self, slot: &Slot<N>, gone: &BitSet<4>) -> bool
         requires slot { Contains self.now.slots.now slot.now }
         requires same { self.now.literals ≡ self.now.targets }
         ensures { result ≡ false → (kept : List ℕ) → Moves kept gone.now.words self.now.targets.nodes.now self.now.targets.starts.now slot.now.variable }
     {
         let i = slot.literal as usize;
+        // The literal is its own support, as long as it is not gone.
         if !gone.test(i) {
             return true;
         }
@@ -82,7 +84,7 @@ impl<const N: usize, const W: usize> Table<'_, N, W> {
         (slot.variable as usize == x).then_some(slot)
     }
 
-    // Whether some literal with the variable `x` has no support: then the variable must move.
+    // Whether a literal with the variable `x` has no support: then each such substitution moves the variable.
     fn must_move(&self, x: usize, gone: &BitSet<4>) -> bool
         requires { self.now.literals ≡ self.now.targets }
         ensures { result ≡ true → (kept : List ℕ) → Moves kept gone.now.words self.now.targets.nodes.now self.now.targets.starts.now x }
