@@ -67,7 +67,7 @@ module _ (N : List Node) (S : List ℕ) (M : List Node) (T : List ℕ) where
       (cases_lt j (64 * w))
 
 -- a literal that does not stay is not reached
-pub unreached : (kept gone after : List ℕ) (C : List Word) (i : ℕ) (θ : ℕ → Word) → i < length C → ((j : ℕ) → j ≢ i → bit_at after j ≡ bit_at gone j)
+unreached : (kept gone after : List ℕ) (C : List Word) (i : ℕ) (θ : ℕ → Word) → i < length C → ((j : ℕ) → j ≢ i → bit_at after j ≡ bit_at gone j)
     → (sub θ (get_or C i (var 0)) ≢ get_or C i (var 0)) → Retracts kept gone C θ → Retracts kept after C θ
 unreached kept gone after C i θ inside same leaves r = record {
   into = λ k d h.
