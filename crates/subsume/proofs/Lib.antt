@@ -12,3 +12,4 @@ mod Firsts
 mod Walking
 pub mod Avoiding
 mod FirstPlaces
+mod Retracting

@@ -6,6 +6,7 @@ mod check;
 mod choice;
 mod covering;
 mod link;
+mod lookout;
 mod meeting;
 mod outside;
 mod places;
