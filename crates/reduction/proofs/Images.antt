@@ -36,6 +36,11 @@ module _ (C : List Word) (i : ℕ) (kept : List Word) (lt : i < length C) (held 
   image-covers : Covers I H
   image-covers = covers-part I H (All-from (Contains H) I (λ w c. let s = image.places w c in in-hand w (s.0, s.1, s.3, s.4)))
 
+  -- what takes the whole clause outside does so with the image
+  pub image-outside : (out : List ℕ) (θ : ℕ → Word) → Retracts held out C θ → All (λ l. Outside out C (sub θ l)) I
+  image-outside out θ r = All-from (λ l. Outside out C (sub θ l)) I
+      (λ w c. let s = image.places w c in All-contains (λ l. Outside out C (sub θ l)) C w r.into (s.0, s.1, s.4))
+
   module _ (after : List ℕ) (here : bit_at after i ≡ 1) (others : (j : ℕ) → (j ≢ i) → bit_at after j ≡ bit_at gone j) where
     -- a literal into which none was turned
     pub free-drops : bit_at mapped i ≡ 0 → Covers H R
@@ -71,11 +76,6 @@ module _ (C : List Word) (i : ℕ) (kept : List Word) (lt : i < length C) (held 
     -- a literal without which no retraction is left
     pub needed-stays : ((θ : ℕ → Word) → Retracts held after C θ → ⊥) → Covers H R → ⊥
     needed-stays none c = let r = retracted c in none r.0 r.1
-
-    -- what takes the whole clause outside does so with the image
-    pub image-outside : (θ : ℕ → Word) → Retracts held after C θ → All (λ l. Outside after C (sub θ l)) I
-    image-outside θ r = All-from (λ l. Outside after C (sub θ l)) I
-        (λ w c. let s = image.places w c in All-contains (λ l. Outside after C (sub θ l)) C w r.into (s.0, s.1, s.4))
 
     -- a literal without which some choice works
     pub spare-drops : (choice : ℕ → ℕ) → ChoosesOutside after I C choice → Covers H R

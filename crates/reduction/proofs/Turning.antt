@@ -1,5 +1,5 @@
 -- The turn of a literal, by where it begins.
-use Rattle.std.proofs.Common.{◌≡◌, ◌≢◌, ℕ, ◌+◌, ◌<◌, List, [], ◌∷◌, ◌++◌, length, get_or, drop, All, sym, ap, ◌∙◌, subst, ⊎_elim, length-append, arith}
+use Rattle.std.proofs.Common.{◌≡◌, ◌≢◌, ℕ, ◌+◌, ◌<◌, List, [], ◌∷◌, ◌++◌, length, get_or, drop, All, Some, None, Option, MatchOption, sym, ap, ◌∙◌, subst, ⊎_elim, length-append, arith}
 use Rattle.std.proofs.lemmas.Bool.{cases_eq}
 use Rattle.std.proofs.lemmas.List.{get_or-map, length-map, map-append, length-take, length_push}
 use Rattle.term.specs.Coding.{word_at}
@@ -8,6 +8,7 @@ use Rattle.term.specs.declared.node.Node.{Node}
 use Rattle.clauses.specs.Clauses.{Covers, literals_at}
 use Rattle.clauses.proofs.Reductions.{tidies-front}
 use Rattle.subsume.specs.Bits.{bit_at, Within}
+use Rattle.subsume.specs.Choices.{picked}
 use Rattle.subsume.specs.FirstChoices.{Outside, ChoosesOutside}
 use Rattle.subsume.specs.Retracting.{Stays, Retracts, Apart}
 use Rattle.subsume.specs.Solving.{SparedOutside}
@@ -17,6 +18,18 @@ use Rattle.reduction.specs.Progress.{Progress, Image}
 use Rattle.reduction.specs.Tidyings.{Taken, TooMany}
 use Rattle.reduction.proofs.Steps.{literal, hand-pushed, keep-step, apart-after, drop-step}
 use Rattle.reduction.proofs.Images.{free-drops, free-image, needed-stays, image-outside, spare-drops, spare-image}
+
+pub within-more : (one other : List ℕ) (i : ℕ) → bit_at other i ≡ 1 → ((j : ℕ) → (j ≢ i) → bit_at other j ≡ bit_at one j) → Within one other
+within-more one other i here others j b = ⊎_elim (λ (e : j ≡ i). ap (bit_at other) e ∙ here) (λ n. others j n ∙ b) (cases_eq j i)
+
+pub within-itself : (one : List ℕ) → Within one one
+within-itself one j b = b
+
+-- where more is held or gone, no fewer choices are left
+pub still-spared : (N : List Node) (S : List ℕ) (M : List Node) (T : List ℕ) (sets : List (BitSet 4)) (held wider gone further : List ℕ)
+    → Within held wider → Within gone further → SparedOutside N S M T held gone sets → SparedOutside N S M T wider further sets
+still-spared N S M T sets held wider gone further h g spared f within w holds =
+    spared f (λ i k. ((within i k).0, not-within gone further g (f i) (within i k).1)) w (λ i j k l b. holds i j k l (h j b))
 
 module _ (nodes : List Node) (S : List ℕ) (starts : List ℕ) (i : ℕ) (h : i < length S) (held gone mapped : List ℕ) (I : List Word) where
   abbrev C : List Word
@@ -43,12 +56,16 @@ module _ (nodes : List Node) (S : List ℕ) (starts : List ℕ) (i : ℕ) (h : i
     pub spare-next : (choice : ℕ → ℕ) → ChoosesOutside after I C choice → (next : List ℕ) (J : List Word) → Taken C (length I) choice next J → Image C (kept ++ drop (i + 1) C) next after J
     spare-next choice c next J t = spare-image C i kept lt held gone p mapped I m after here others choice c next J t.all t.only
 
-    -- where no choice is left that leaves alone what is held, no retraction is
-    pub none-left : ((θ : ℕ → Word) → All (λ l. Outside after C (sub θ l)) I → Stays held C θ → ⊥) → (θ : ℕ → Word) → Retracts held after C θ → ⊥
-    none-left none θ r = none θ (image-outside C i kept lt held gone p mapped I m after here others θ r) r.stays
+    -- what was decided where more is out: no choice that leaves alone what is held, or a choice
+    module _ (out : List ℕ) (more : Within after out) (same : (j : ℕ) → bit_at held j ≡ 1 → bit_at out j ≡ bit_at after j) where
+      pub apart : Apart held out C
+      apart = let a = apart-after C i kept lt held gone p after here others in record { here = λ j l b. same j b ∙ a.here j l b; once = a.once }
 
-    pub apart : Apart held after C
-    apart = apart-after C i kept lt held gone p after here others
+      pub decided-without : (o : Option (List (Option ℕ))) → ((θ : ℕ → Word) → Retracts held after C θ → Retracts held out C θ)
+          → MatchOption o ((θ : ℕ → Word) → All (λ l. Outside out C (sub θ l)) I → Stays held C θ → ⊥) (λ picks. ChoosesOutside out I C (picked picks))
+          → MatchOption o ((θ : ℕ → Word) → Retracts held after C θ → ⊥) (λ picks. ChoosesOutside after I C (picked picks))
+      decided-without (Some picks) on c = (c.0, λ k h. let d = c.1 k h in (d.0, not-within after out more (picked picks k) d.1, d.2))
+      decided-without None on none = λ θ r. let q = on θ r in none θ (image-outside C i kept lt held gone p mapped I m out θ q) q.stays
 
     -- and any other is kept
     module _ (held' : List ℕ) (free : (j : ℕ) → (j ≢ i) → bit_at held' j ≡ bit_at held j) (none : (θ : ℕ → Word) → Retracts held after C θ → ⊥) where
@@ -78,23 +95,3 @@ module _ (nodes : List Node) (S : List ℕ) (starts : List ℕ) (i : ℕ) (h : i
           let long : length K ≡ 17 = omega (arith, length_push kept (literal C i kept lt), length-map starts (word_at nodes), full) in
           let front = tidies-front (P.back R t) (omega (arith, length-append K (drop (i + 1) C))) in
           omega (arith, ap length front, long, length-take (length K) R, length-take (length K) (K ++ drop (i + 1) C), length-append K (drop (i + 1) C))
-
--- where more is held or gone, no fewer choices are left
-pub still-spared : (N : List Node) (S : List ℕ) (M : List Node) (T : List ℕ) (sets : List (BitSet 4)) (held wider gone further : List ℕ)
-    → Within held wider → Within gone further → SparedOutside N S M T held gone sets → SparedOutside N S M T wider further sets
-still-spared N S M T sets held wider gone further h g spared f within w holds =
-    spared f (λ i k. ((within i k).0, not-within gone further g (f i) (within i k).1)) w (λ i j k l b. holds i j k l (h j b))
-
-pub within-more : (one other : List ℕ) (i : ℕ) → bit_at other i ≡ 1 → ((j : ℕ) → (j ≢ i) → bit_at other j ≡ bit_at one j) → Within one other
-within-more one other i here others j b = ⊎_elim (λ (e : j ≡ i). ap (bit_at other) e ∙ here) (λ n. others j n ∙ b) (cases_eq j i)
-
-pub within-itself : (one : List ℕ) → Within one one
-within-itself one j b = b
-
--- a literal more is in both
-pub within-both : (gone one other : List ℕ) (i : ℕ) → bit_at other i ≡ 1 → ((j : ℕ) → (j ≢ i) → bit_at one j ≡ bit_at gone j) → ((j : ℕ) → (j ≢ i) → bit_at other j ≡ bit_at gone j) → Within one other
-within-both gone one other i here there others j b = ⊎_elim (λ (e : j ≡ i). ap (bit_at other) e ∙ here) (λ n. others j n ∙ sym (there j n) ∙ b) (cases_eq j i)
-
--- a choice outside a set is outside what is within it
-pub chooses-within : (gone out : List ℕ) (one other : List Word) (choice : ℕ → ℕ) → Within gone out → ChoosesOutside out one other choice → ChoosesOutside gone one other choice
-chooses-within gone out one other choice w c = (c.0, λ i h. let d = c.1 i h in (d.0, not-within gone out w (choice i) d.1, d.2))

@@ -1,10 +1,13 @@
 // Tidying: drops the literals that the others make needless.
-ghost use Rattle.std.specs.Prelude.{◌≡◌, ℕ, ◌<◌, ◌≤◌, None, length, All};
+ghost use Rattle.std.specs.Prelude.{◌≡◌, ◌≢◌, ℕ, List, ◌<◌, ◌≤◌, None, length, All, MatchOption};
 ghost use Rattle.bounded.specs.Elems.{elems};
 ghost use Rattle.clauses.specs.Clauses.{literals_at};
 ghost use Rattle.subsume.specs.Bits.{bit_at};
 ghost use Rattle.subsume.specs.Choices.{Picked, pick, picked};
+ghost use Rattle.subsume.specs.FirstChoices.{ChoosesOutside};
+ghost use Rattle.subsume.specs.Retracting.{Retracts};
 ghost use Rattle.subsume.specs.Solving.{SparedOutside};
+ghost use Rattle.term.specs.Words.{Word};
 ghost use Rattle.term.specs.Matched.{Below};
 ghost use Rattle.reduction.specs.Tidyings.{Inside, Standing, Turned, Passed, Taken, Leaves};
 
@@ -30,10 +33,44 @@ pub(super) enum Turn<const N: usize> {
 }
 
 impl Decided {
-    // Decides on literal `i`: it is dropped where the literals that are left cover the clause without it. It is enough to
-    // look for choices that leave those literals where they are that are kept: see `Retracts`.
+    // Choices that take each literal of the table to one that is not in `without`: those that are gone, and literal `i`. Or none,
+    // where no substitution retracts the clause so: leaves the kept literals as they are, and what it makes. `whole` links the
+    // clause with itself.
+    fn choices_without<const N: usize, const V: usize, const W: usize>(
+        &self,
+        whole: &Table<'_, N, W>,
+        table: &Table<'_, N, W>,
+        start: &State<N>,
+        order: &mut Order<N>,
+        mapped: &BitSet<4>,
+        i: usize,
+        without: &BitSet<4>,
+    ) -> Option<[Option<u16>; N]>
+        requires literal { i < length table.now.targets.starts.now }
+        requires same { table.now.literals.nodes.now ≡ table.now.targets.nodes.now }
+        requires whole { (whole.now.literals ≡ whole.now.targets) × (whole.now.targets ≡ table.now.targets) }
+        requires variables { Below V table.now.literals.nodes.now × (V ≤ 65536) }
+        requires picked { Picked start.now.sets (length table.now.literals.starts.now) (length table.now.targets.starts.now) start.now.picks }
+        requires none { (k : ℕ) → pick start.now.picks k ≡ None }
+        requires spared { SparedOutside table.now.literals.nodes.now table.now.literals.starts.now table.now.targets.nodes.now table.now.targets.starts.now self.now.held.words self.now.gone.words start.now.sets }
+        requires standing { Standing table.now.targets.nodes.now (literals_at table.now.targets.nodes.now table.now.targets.starts.now) mapped.now.words (literals_at table.now.literals.nodes.now table.now.literals.starts.now) i self.now }
+        requires here { bit_at without.now.words i ≡ 1 }
+        requires others { (j : ℕ) → j ≢ i → bit_at without.now.words j ≡ bit_at self.now.gone.words j }
+        ensures { MatchOption result ((θ : ℕ → Word) → Retracts self.now.held.words without.now.words (literals_at table.now.targets.nodes.now table.now.targets.starts.now) θ → ⊥) (λ picks. ChoosesOutside without.now.words (literals_at table.now.literals.nodes.now table.now.literals.starts.now) (literals_at table.now.targets.nodes.now table.now.targets.starts.now) (picked picks)) }
+    {
+        let mut out = *without;
+        if !whole.look_out(&self.held, &mut out, i) {
+            return None;
+        }
+        // Only the part of this literal can fail, since others can stay as they are.
+        order.first = table.part_at(i);
+        table.choose_outside::<V>(start, &out, order)
+    }
+
+    // Decides on literal `i`: it is dropped where the literals that are left cover the clause without it.
     fn turn<const N: usize, const V: usize, const W: usize>(
         &mut self,
+        whole: &Table<'_, N, W>,
         table: &Table<'_, N, W>,
         start: &mut State<N>,
         order: &mut Order<N>,
@@ -42,6 +79,7 @@ impl Decided {
     ) -> Turn<N>
         requires literal { i < length table.now.targets.starts.now }
         requires same { table.now.literals.nodes.now ≡ table.now.targets.nodes.now }
+        requires whole { (whole.now.literals ≡ whole.now.targets) × (whole.now.targets ≡ table.now.targets) }
         requires variables { Below V table.now.literals.nodes.now × (V ≤ 65536) }
         requires picked { Picked start.old.sets (length table.now.literals.starts.now) (length table.now.targets.starts.now) start.old.picks }
         requires none { (k : ℕ) → pick start.old.picks k ≡ None }
@@ -59,12 +97,12 @@ impl Decided {
             return Turn::On;
         }
         table.strike_out(start, &self.gone);
-        let mut out = self.gone;
-        out.include(i);
-        // Only the part of this literal can fail, since others can stay as they are.
-        order.first = table.part_at(i);
-        if let Some(picks) = table.choose_outside::<V>(start, &out, order) {
-            self.gone.include(i);
+        let mut without = self.gone;
+        without.include(i);
+        if let Some(picks) = self.choices_without::<N, V, W>(
+            whole, table, start, order, mapped, i, &without,
+        ) {
+            self.gone = without;
             return Turn::Shrunk(picks);
         }
         self.held.include(i);
@@ -110,14 +148,17 @@ fn start<const N: usize, const W: usize>(
 }
 
 // Gives each literal of a clause from `at` on its turn, until one is dropped by choices that are new. The clause is the targets
-// of the table, and its literals are what it was last turned into, at the places in `mapped`.
+// of the table, and its literals are what it was last turned into, at the places in `mapped`. `whole` links the clause with
+// itself.
 fn pass<const N: usize, const V: usize, const W: usize>(
+    whole: &Table<'_, N, W>,
     table: &Table<'_, N, W>,
     mapped: &BitSet<4>,
     at: usize,
     decided: &mut Decided,
 ) -> Outcome<N>
     requires same { table.now.literals.nodes.now ≡ table.now.targets.nodes.now }
+    requires whole { (whole.now.literals ≡ whole.now.targets) × (whole.now.targets ≡ table.now.targets) }
     requires variables { Below V table.now.targets.nodes.now × (V ≤ 65536) }
     requires inside { Inside (length table.now.targets.nodes.now) decided.old }
     requires standing { Standing table.now.targets.nodes.now (literals_at table.now.targets.nodes.now table.now.targets.starts.now) mapped.now.words (literals_at table.now.literals.nodes.now table.now.literals.starts.now) at decided.old }
@@ -127,7 +168,7 @@ fn pass<const N: usize, const V: usize, const W: usize>(
     let mut state = start(table, &decided.held, &decided.gone);
     let mut order = Order::new();
     for i in at..table.targets.len() {
-        match decided.turn::<N, V, W>(table, &mut state, &mut order, mapped, i) {
+        match decided.turn::<N, V, W>(whole, table, &mut state, &mut order, mapped, i) {
             Turn::On => {}
             Turn::Full => return Outcome::Full,
             Turn::Shrunk(picks) => return Outcome::Shrunk { next: i + 1, picks },
@@ -192,8 +233,10 @@ fn tidied_in<const N: usize, const K: usize, const V: usize, const W: usize>(
         gone: BitSet::new(),
     };
     let words = Targets::<V>::new(clause);
+    let mut own = Slots::<N, K>::new();
+    let whole = Table::<N, W>::link(clause, &words, &mut own);
     let mut slots = Slots::<N, K>::new();
-    let (mut image, mut mapped) = whole::<N>(clause);
+    let (mut image, mut mapped) = all_of::<N>(clause);
     let mut at = 0;
     loop {
         let view = View {
@@ -201,7 +244,7 @@ fn tidied_in<const N: usize, const K: usize, const V: usize, const W: usize>(
             starts: image.as_slice(),
         };
         let table = Table::<N, W>::link(view, &words, &mut slots);
-        match pass::<N, V, W>(&table, &mapped, at, &mut decided) {
+        match pass::<N, V, W>(&whole, &table, &mapped, at, &mut decided) {
             Outcome::Whole => return Some(decided.kept),
             Outcome::Full => return None,
             Outcome::Shrunk { next, picks } => {
@@ -213,7 +256,7 @@ fn tidied_in<const N: usize, const K: usize, const V: usize, const W: usize>(
 }
 
 // All literals of a clause: where they begin, and their places.
-fn whole<const N: usize>(clause: View<'_>) -> (Bounded<usize, N>, BitSet<4>)
+fn all_of<const N: usize>(clause: View<'_>) -> (Bounded<usize, N>, BitSet<4>)
     requires { (length clause.starts.now ≤ N) × (N ≤ 256) }
     ensures starts { elems result.0 ≡ clause.entry.starts.now }
     ensures places { (j : ℕ) → j < length clause.entry.starts.now → bit_at result.1.words j ≡ 1 }

@@ -21,14 +21,14 @@ loop-next-init g c =
     let none = ap (literals_at N) c.new.ensures in
     let free = c.new-2.ensures in
     let zero = c.new-3.ensures in
-    let mapped = c.whole-image.result.1.words in
+    let mapped = c.all_of-image.result.1.words in
     record {
       inside = subst (All (λ s. s < length N)) (sym c.new.ensures) (All-nil (λ s. s < length N));
-      begun = subst (All (λ s. s < length N)) (sym c.whole-image.ensures.starts) (λ k d h. rw (get_or_default S k d 0 h) (a.inside k h));
+      begun = subst (All (λ s. s < length N)) (sym c.all_of-image.ensures.starts) (λ k d h. rw (get_or_default S k d 0 h) (a.inside k h));
       standing = record {
         progress = begun C held gone (literals_at N (elems c.new.result)) none free zero;
-        image = subst (λ (l : List ℕ). Image C (literals_at N (elems c.new.result) ++ drop 0 C) mapped gone (literals_at N l)) (sym c.whole-image.ensures.starts)
-            (begun-image C held gone (literals_at N (elems c.new.result)) none zero mapped (λ j h. c.whole-image.ensures.places j (omega (arith, length-map S (word_at N), h))));
+        image = subst (λ (l : List ℕ). Image C (literals_at N (elems c.new.result) ++ drop 0 C) mapped gone (literals_at N l)) (sym c.all_of-image.ensures.starts)
+            (begun-image C held gone (literals_at N (elems c.new.result)) none zero mapped (λ j h. c.all_of-image.ensures.places j (omega (arith, length-map S (word_at N), h))));
       };
     }
 

@@ -1,7 +1,7 @@
 use Rattle.std.proofs.Common.{◌≡◌, ℕ, ◌<◌, take}
 use Rattle.bounded.specs.Elems.{elems}
 use Rattle.subsume.specs.Bits.{bit_at}
-use Rattle.reduction.proofs.tidying.whole.Given as goal
+use Rattle.reduction.proofs.tidying.all_of.Given as goal
 
 abbrev pub invariant-loop-j : goal.invariant-loop-j
 invariant-loop-j g l = record {
