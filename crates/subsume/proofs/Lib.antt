@@ -12,3 +12,4 @@ mod Firsts
 mod Walking
 mod Avoiding
 mod FirstPlaces
+mod Roots

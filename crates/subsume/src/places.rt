@@ -1,12 +1,12 @@
 // Where the words of the targets end, and where they stand first. The first place of a word is its label: equal words have
 // the same, and others another.
-ghost use Rattle.std.specs.Prelude.{◌≡◌, ◌<◌, ◌≤◌, length};
+ghost use Rattle.std.specs.Prelude.{◌≡◌, ◌<◌, ◌≤◌, length, Decides};
 ghost use Rattle.term.specs.Coding.{word_at};
 ghost use Rattle.subsume.specs.Meeting.{place_of, Ends, Firsts, number, hash_of};
 ghost use Rattle.subsume.specs.Ending.{Ends-prop};
 
 use super::view::View;
-use term::{Node, Symbol, WordAt};
+use term::{Node, Symbol, WordAt, places};
 
 // For each of at most P nodes, a place among them.
 pub type Places<const P: usize> = [u16; P];
@@ -68,7 +68,7 @@ fn firsts<const P: usize>(targets: View<'_>) -> Places<P>
         if p >= q as u16 {
             seen[h] = q as u16;
             places[q] = q as u16;
-        } else if word.is_same(word.at(p as usize)) {
+        } else if stands_at(word, p as usize) {
             places[q] = p;
         } else {
             places[q] = first_place(word) as u16;
@@ -83,11 +83,20 @@ fn first_place(word: WordAt<'_>) -> usize
     ensures bound { result ≤ word.entry.start }
 {
     for p in 0..word.start {
-        if word.is_same(word.at(p)) {
+        if stands_at(word, p) {
             return p;
         }
     }
     word.start
+}
+
+// Whether the word stands at a place too. Mostly its first node tells.
+fn stands_at(word: WordAt<'_>, p: usize) -> bool
+    requires { p < length word.nodes.now }
+    ensures { Decides result (word_at word.entry.nodes.now word.entry.start ≡ word_at word.entry.nodes.now p) }
+{
+    let node = word.nodes[word.start];
+    node == word.nodes[p] && (places(node) == 0 || word.is_same(word.at(p)))
 }
 
 // A hash of a word, by which most that differ are told apart.
