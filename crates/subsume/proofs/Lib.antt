@@ -13,3 +13,4 @@ mod Walking
 mod Avoiding
 mod FirstPlaces
 mod Roots
+mod Combining

@@ -1,5 +1,5 @@
 // Sets of numbers, as bits in words of 64.
-ghost use Rattle.std.specs.Prelude.{◌≡◌, ℕ, ◌*◌, ◌<◌, ◌≤◌, ⊤, length, map, sum, count_ones, Decides, ◌≢◌};
+ghost use Rattle.std.specs.Prelude.{◌≡◌, ℕ, ◌*◌, ◌<◌, ◌≤◌, ⊤, min, max, length, map, sum, count_ones, Decides, ◌≢◌};
 ghost use Rattle.subsume.specs.Bits.{bit_at, First, FirstFrom, Popped, PoppedFrom, Only, Parted};
 
 use std::alloc::AllocError;
@@ -66,6 +66,24 @@ impl<const W: usize> BitSet<W> {
         ensures others { (l : ℕ) → (l ≢ k) → bit_at self.new.words l ≡ bit_at self.old.words l }
     {
         self.words[k / 64] &= !(1u64 << (k % 64));
+    }
+
+    // Keeps the numbers that another set has too.
+    pub(super) fn keep(&mut self, other: &BitSet<W>)
+        ensures { (k : ℕ) → bit_at self.new.words k ≡ min (bit_at self.old.words k) (bit_at other.now.words k) }
+    {
+        for w in 0..W {
+            self.words[w] &= other.words[w];
+        }
+    }
+
+    // Puts in the numbers of another set.
+    pub(super) fn add(&mut self, other: &BitSet<W>)
+        ensures { (k : ℕ) → bit_at self.new.words k ≡ max (bit_at self.old.words k) (bit_at other.now.words k) }
+    {
+        for w in 0..W {
+            self.words[w] |= other.words[w];
+        }
     }
 
     // The least number in the set.
