@@ -27,6 +27,40 @@ module _ (labels : List ℕ) (word : ℕ) where
       (λ s. inr (more (get_or labels m 0) s))
       (half m inside left)
 
+-- of the targets of one word, all but the rest are sifted by the marks of their labels
+pub record Sieved (labels : List ℕ) (word : ℕ) (marks : List ℕ) (rest kept : ℕ) : Type 0 where
+  pub held : (k : ℕ) → k < length labels → bit word k ≡ 1 → Shows marks (get_or labels k 0) → bit kept k ≡ 1
+  pub fewer : (k : ℕ) → bit kept k ≡ 1 → bit word k ≡ 1
+  pub marked : (k : ℕ) → k < length labels → bit kept k ≡ 1 → (bit rest k ≡ 1) ⊎ Shows marks (get_or labels k 0)
+  pub outside : (k : ℕ) → length labels ≤ k → bit kept k ≡ bit word k
+
+module _ (labels : List ℕ) (word : ℕ) (marks : List ℕ) (rest k others kept : ℕ) (p : Parted rest k others) (inside : k < length labels) (s : Sieved labels word marks rest kept) where
+  -- the target stays
+  pub sieved-stays : (after : ℕ) → Shows marks (get_or labels k 0) → ((l : ℕ) → bit after l ≡ bit kept l) → Sieved labels word marks others after
+  sieved-stays after shown same = record {
+    held = λ l h b m. same l ∙ s.held l h b m;
+    fewer = λ l b. s.fewer l (sym (same l) ∙ b);
+    marked = λ l h b. ⊎_elim
+        (λ (e : l ≡ k). inr (subst (λ (x : ℕ). Shows marks (get_or labels x 0)) (sym e) shown))
+        (λ n. ⊎_elim (λ r. inl (p.others l n ∙ r)) (λ m. inr m) (s.marked l h (sym (same l) ∙ b)))
+        (cases_eq l k);
+    outside = λ l h. same l ∙ s.outside l h;
+  }
+
+  -- the target is struck out
+  pub sieved-goes : (after : ℕ) → (Shows marks (get_or labels k 0) → ⊥) → bit after k ≡ 0 → ((l : ℕ) → l ≢ k → bit after l ≡ bit kept l) → Sieved labels word marks others after
+  sieved-goes after unmarked here same =
+      let apart : (l : ℕ) → bit after l ≡ 1 → l ≢ k = λ l b e. omega (arith, b, ap (bit after) e, here) in
+      record {
+        held = λ l h b m. ⊎_elim
+            (λ (e : l ≡ k). absurd (unmarked (subst (λ (x : ℕ). Shows marks (get_or labels x 0)) e m)))
+            (λ n. same l n ∙ s.held l h b m)
+            (cases_eq l k);
+        fewer = λ l b. s.fewer l (sym (same l (apart l b)) ∙ b);
+        marked = λ l h b. ⊎_elim (λ r. inl (p.others l (apart l b) ∙ r)) (λ m. inr m) (s.marked l h (sym (same l (apart l b)) ∙ b));
+        outside = λ l h. same l (λ e. omega (arith, h, e, inside)) ∙ s.outside l h;
+      }
+
 -- a part from a place on
 pub part-from : (labels : List ℕ) (n : ℕ) → take (length labels - n) (drop n labels) ≡ drop n labels
 part-from labels n = take_all (length labels - n) (drop n labels) (omega (arith, length-drop n labels))

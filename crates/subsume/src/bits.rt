@@ -169,5 +169,5 @@ pub(super) fn part(word: u64) -> (usize, u64)
     ensures { Parted word result.0 result.1 }
 {
     let k = word.trailing_zeros() as usize;
-    (k, word & !(1u64 << k))
+    (k, word & (word - 1))
 }

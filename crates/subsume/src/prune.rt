@@ -77,8 +77,8 @@ fn sift_word<const W: usize>(word: u64, labels: &[u16], marks: &BitSet<W>) -> u6
             break;
         }
         let label = labels[k] as usize;
-        if label < 64 * W && !marks.test(label) {
-            kept &= !(1u64 << k);
+        if label < 64 * W {
+            kept &= !(u64::from(!marks.test(label)) << k);
         }
         rest = others;
     }
