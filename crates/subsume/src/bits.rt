@@ -147,9 +147,8 @@ impl<const W: usize> BitSet<W> {
     pub(super) fn only(&self) -> Option<usize>
         ensures { Only self.now.words result }
     {
-        let mut rest = *self;
-        let k = rest.pop()?;
-        match rest.first() {
+        let k = self.first()?;
+        match self.first_from(k + 1) {
             None => Some(k),
             Some(_) => None,
         }

@@ -1,7 +1,7 @@
 // Where the words of the targets end, and where they stand first. The first place of a word is its label: equal words have
 // the same, and others another.
 ghost use Rattle.std.specs.Prelude.{◌≡◌, ◌<◌, ◌≤◌, length, Decides};
-ghost use Rattle.term.specs.Coding.{word_at};
+ghost use Rattle.term.specs.Coding.{word_at, Next};
 ghost use Rattle.subsume.specs.Meeting.{place_of, Ends, Firsts, number, hash_of};
 ghost use Rattle.subsume.specs.Ending.{Ends-prop};
 
@@ -26,10 +26,11 @@ impl<'a, const P: usize> Targets<'a, P> {
         requires { (length view.nodes.now ≤ P) × (P ≤ 65535) }
         ensures { result.view ≡ view.entry }
     {
+        let ends = ends(view);
         Targets {
             view,
-            ends: ends(view),
-            firsts: firsts(view),
+            ends,
+            firsts: firsts(view, &ends),
         }
     }
 }
@@ -51,8 +52,9 @@ fn ends<const P: usize>(targets: View<'_>) -> Places<P>
 }
 
 // For each node of the targets the first place where the same word stands.
-fn firsts<const P: usize>(targets: View<'_>) -> Places<P>
-    requires { (length targets.nodes.now ≤ P) × (P ≤ 65535) }
+fn firsts<const P: usize>(targets: View<'_>, ends: &[u16]) -> Places<P>
+    requires few { (length targets.nodes.now ≤ P) × (P ≤ 65535) }
+    requires ends { Ends targets.nodes.now ends.now }
     ensures { Firsts targets.entry.nodes.now result }
 {
     let mut places = [0; P];
@@ -63,7 +65,7 @@ fn firsts<const P: usize>(targets: View<'_>) -> Places<P>
             nodes: targets.nodes,
             start: q,
         };
-        let h = hash(word) as usize % P;
+        let h = hash(word, ends[q] as usize) as usize % P;
         let p = seen[h];
         if p >= q as u16 {
             seen[h] = q as u16;
@@ -99,14 +101,15 @@ fn stands_at(word: WordAt<'_>, p: usize) -> bool
     node == word.nodes[p] && (places(node) == 0 || word.is_same(word.at(p)))
 }
 
-// A hash of a word, by which most that differ are told apart.
-fn hash(word: WordAt<'_>) -> u16
+// A hash of a word that ends at a place, by which most that differ are told apart.
+fn hash(word: WordAt<'_>, end: usize) -> u16
+    requires { Next word.nodes.now word.start end }
     ensures value { result ≡ hash_of (word_at word.entry.nodes.now word.entry.start) }
     ensures bound { result < 4096 }
 {
     // A loop and no `fold`, since each turn relies on an invariant: the hash is below 4096.
     let mut hash: u32 = 0;
-    for node in &word.nodes[word.start..word.end()] {
+    for node in &word.nodes[word.start..end] {
         hash = (hash * 31 + number(*node)) % 4096;
     }
     hash as u16

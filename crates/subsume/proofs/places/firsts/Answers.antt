@@ -13,12 +13,12 @@ loop-q-preserved g c =
     let places = c.loop-q.places in
     let seen = c.loop-q.seen in
     let kept = c.loop-q.invariant in
-    let room : q < length places = omega (arith, kept.1, c.requires, c.loop-q-test.true) in
+    let room : q < length places = omega (arith, kept.1, c.requires.few, c.loop-q-test.true) in
     let P = g.row.P in
     let hash = ap (λ (n : ℕ). n % P) c.hash.ensures.value in
     elim c.if-p-q.branch [
       | then-p-q w ↦ (
-        rw (w.places-is, w.seen-is, hash) (seen-new P nodes q places seen c.loop-q-test.true room kept.0 (omega (arith, kept.2, mod-lt (hash_of (word_at nodes q)) {m = P} (omega (arith, c.requires, c.loop-q-test.true)))) (rw hash at w.if-p-q.true)),
+        rw (w.places-is, w.seen-is, hash) (seen-new P nodes q places seen c.loop-q-test.true room kept.0 (omega (arith, kept.2, mod-lt (hash_of (word_at nodes q)) {m = P} (omega (arith, c.requires.few, c.loop-q-test.true)))) (rw hash at w.if-p-q.true)),
         ap length w.places-is ∙ length-set places q q ∙ kept.1,
         ap length w.seen-is ∙ length-set seen (c.hash.result % P) q ∙ kept.2,
       )
