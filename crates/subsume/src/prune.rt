@@ -173,10 +173,9 @@ impl<const N: usize, const W: usize> Table<'_, N, W> {
         if last.before.is_none() {
             return;
         }
-        let Some(marks) = self.shared(x, sets) else {
-            return;
-        };
-        self.strike(x, &marks, sets, queue);
+        if let Some(marks) = self.shared(x, sets) {
+            self.strike(x, &marks, sets, queue);
+        }
         if x < 64 * W {
             queue.exclude(x);
         }
