@@ -110,7 +110,7 @@ impl View<'_> {
         }
         // As in `covers`.
         if self.nodes.len() <= 64 && other.nodes.len() <= 64 {
-            self.first_by::<N, K, V, 1>(other)
+            self.first_by::<N, 64, V, 1>(other)
         } else {
             self.first_by::<N, K, V, W>(other)
         }

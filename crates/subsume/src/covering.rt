@@ -20,10 +20,10 @@ impl View<'_> {
         requires variables { Below V self.nodes.now × (V ≤ 65535) }
         ensures { Decides result (Covers (literals_at self.entry.nodes.now self.entry.starts.now) (literals_at other.entry.nodes.now other.entry.starts.now)) }
     {
-        // Labels are places among the other's nodes, and there are mostly no more variables than nodes: where these are few,
-        // one word holds them all, and is quicker.
+        // Labels are places among the other's nodes, slots are places among these nodes, and there are mostly no more variables
+        // than nodes: where these are few, one word and 64 slots hold them all, and are quicker.
         if self.nodes.len() <= 64 && other.nodes.len() <= 64 {
-            self.covers_by::<N, K, V, 1>(other)
+            self.covers_by::<N, 64, V, 1>(other)
         } else {
             self.covers_by::<N, K, V, W>(other)
         }
