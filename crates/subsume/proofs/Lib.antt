@@ -13,3 +13,5 @@ mod Walking
 pub mod Avoiding
 mod FirstPlaces
 mod Retracting
+mod Roots
+mod Combining

@@ -4,29 +4,62 @@ use Rattle.std.specs.Int.{bit_at as bit}
 use Rattle.std.proofs.lemmas.List.{get_or-drop, take_all, length-drop, get_or-set_same}
 use Rattle.std.proofs.lemmas.Bool.{cases_eq, cases_lt}
 use Rattle.subsume.specs.Bits.{bit_at, Parted}
-use Rattle.subsume.specs.Choices.{Shows, Marked, Sifted}
+use Rattle.subsume.specs.Choices.{Shows, Given, Sifted}
 use Rattle.subsume.proofs.Sets.{bit-of_word, other-word}
 
-module _ (labels : List ℕ) (word : ℕ) (before : List ℕ) where
+module _ (labels : List ℕ) (word : ℕ) where
   -- of the targets of one word, all but the rest are marked
   abbrev pub Half : (rest : ℕ) → (marks : List ℕ) → Type 0
-  Half rest marks = (k : ℕ) → k < length labels → bit word k ≡ 1 → Shows before (get_or labels k 0) → (bit rest k ≡ 1) ⊎ Shows marks (get_or labels k 0)
+  Half rest marks = (k : ℕ) → k < length labels → bit word k ≡ 1 → (bit rest k ≡ 1) ⊎ Shows marks (get_or labels k 0)
 
   -- a mark stood before, or a target of the word gives it
-  abbrev pub Given : (start marks : List ℕ) → Type 0
-  Given start marks = (l : ℕ) → bit_at marks l ≡ 1 → (bit_at start l ≡ 1) ⊎ ((bit_at before l ≡ 1) × ((k : ℕ) × (k < 64) × (k < length labels) × (bit word k ≡ 1) × (get_or labels k 0 ≡ l)))
+  abbrev pub Told : (start marks : List ℕ) → Type 0
+  Told start marks = (l : ℕ) → bit_at marks l ≡ 1 → (bit_at start l ≡ 1) ⊎ ((k : ℕ) × (k < 64) × (k < length labels) × (bit word k ≡ 1) × (get_or labels k 0 ≡ l))
 
-  pub half-on : (rest k others : ℕ) (marks after : List ℕ) → Parted rest k others → ((l : ℕ) → Shows marks l → Shows after l)
-      → (Shows before (get_or labels k 0) → Shows after (get_or labels k 0)) → Half rest marks → Half others after
-  half-on rest k others marks after p more here half m inside left shown =
+  pub half-on : (rest k others : ℕ) (marks after : List ℕ) → Parted rest k others → ((l : ℕ) → Shows marks l → Shows after l) → Shows after (get_or labels k 0) → Half rest marks → Half others after
+  half-on rest k others marks after p more here half m inside left =
       ⊎_elim
       (λ (b : bit rest m ≡ 1).
       ⊎_elim
-      (λ (e : m ≡ k). inr (subst (λ (x : ℕ). Shows after (get_or labels x 0)) (sym e) (here (subst (λ (x : ℕ). Shows before (get_or labels x 0)) e shown))))
+      (λ (e : m ≡ k). inr (subst (λ (x : ℕ). Shows after (get_or labels x 0)) (sym e) here))
       (λ n. inl (p.others m n ∙ b))
       (cases_eq m k))
       (λ s. inr (more (get_or labels m 0) s))
-      (half m inside left shown)
+      (half m inside left)
+
+-- of the targets of one word, all but the rest are sifted by the marks of their labels
+pub record Sieved (labels : List ℕ) (word : ℕ) (marks : List ℕ) (rest kept : ℕ) : Type 0 where
+  pub held : (k : ℕ) → k < length labels → bit word k ≡ 1 → Shows marks (get_or labels k 0) → bit kept k ≡ 1
+  pub fewer : (k : ℕ) → bit kept k ≡ 1 → bit word k ≡ 1
+  pub marked : (k : ℕ) → k < length labels → bit kept k ≡ 1 → (bit rest k ≡ 1) ⊎ Shows marks (get_or labels k 0)
+  pub outside : (k : ℕ) → length labels ≤ k → bit kept k ≡ bit word k
+
+module _ (labels : List ℕ) (word : ℕ) (marks : List ℕ) (rest k others kept : ℕ) (p : Parted rest k others) (inside : k < length labels) (s : Sieved labels word marks rest kept) where
+  -- the target stays
+  pub sieved-stays : (after : ℕ) → Shows marks (get_or labels k 0) → ((l : ℕ) → bit after l ≡ bit kept l) → Sieved labels word marks others after
+  sieved-stays after shown same = record {
+    held = λ l h b m. same l ∙ s.held l h b m;
+    fewer = λ l b. s.fewer l (sym (same l) ∙ b);
+    marked = λ l h b. ⊎_elim
+        (λ (e : l ≡ k). inr (subst (λ (x : ℕ). Shows marks (get_or labels x 0)) (sym e) shown))
+        (λ n. ⊎_elim (λ r. inl (p.others l n ∙ r)) (λ m. inr m) (s.marked l h (sym (same l) ∙ b)))
+        (cases_eq l k);
+    outside = λ l h. same l ∙ s.outside l h;
+  }
+
+  -- the target is struck out
+  pub sieved-goes : (after : ℕ) → (Shows marks (get_or labels k 0) → ⊥) → bit after k ≡ 0 → ((l : ℕ) → l ≢ k → bit after l ≡ bit kept l) → Sieved labels word marks others after
+  sieved-goes after unmarked here same =
+      let apart : (l : ℕ) → bit after l ≡ 1 → l ≢ k = λ l b e. omega (arith, b, ap (bit after) e, here) in
+      record {
+        held = λ l h b m. ⊎_elim
+            (λ (e : l ≡ k). absurd (unmarked (subst (λ (x : ℕ). Shows marks (get_or labels x 0)) e m)))
+            (λ n. same l n ∙ s.held l h b m)
+            (cases_eq l k);
+        fewer = λ l b. s.fewer l (sym (same l (apart l b)) ∙ b);
+        marked = λ l h b. ⊎_elim (λ r. inl (p.others l (apart l b) ∙ r)) (λ m. inr m) (s.marked l h (sym (same l (apart l b)) ∙ b));
+        outside = λ l h. same l (λ e. omega (arith, h, e, inside)) ∙ s.outside l h;
+      }
 
 -- a part from a place on
 pub part-from : (labels : List ℕ) (n : ℕ) → take (length labels - n) (drop n labels) ≡ drop n labels
@@ -60,24 +93,20 @@ module _ (words labels : List ℕ) (w : ℕ) where
   label-here : (m k : ℕ) → k ≡ 64 * w + m → get_or labels k 0 ≡ get_or here m 0
   label-here m k e = ap (λ (n : ℕ). get_or labels n 0) e ∙ sym (get_or-drop (64 * w) labels m 0)
 
-  pub marked-word : (before marks after : List ℕ) → Marked words labels (min (64 * w) (length labels)) before marks → ((l : ℕ) → Shows marks l → Shows after l)
-      → ((k : ℕ) → k < length here → bit (get_or words w 0) k ≡ 1 → Shows before (get_or here k 0) → Shows after (get_or here k 0))
-      → Given here (get_or words w 0) before marks after
-      → Marked words labels (min (64 * (w + 1)) (length labels)) before after
-  marked-word before marks after so_far more mark given = record {
-    shown = λ k h left shown.
-        ⊎_elim
-        (λ (b : k < min (64 * w) (length labels)). more (get_or labels k 0) (so_far.shown k b left shown))
-        (λ p.
-        let same = label-here p.0 k p.2 in
-        subst (Shows after) (sym same) (mark p.0 p.3 (sym (bit-here p.0 p.1 k p.2) ∙ left) (subst (Shows before) same shown)))
+  pub given-word : (marks after : List ℕ) → Given words labels (min (64 * w) (length labels)) marks → ((l : ℕ) → Shows marks l → Shows after l)
+      → ((k : ℕ) → k < length here → bit (get_or words w 0) k ≡ 1 → Shows after (get_or here k 0)) → Told here (get_or words w 0) marks after
+      → Given words labels (min (64 * (w + 1)) (length labels)) after
+  given-word marks after so_far more mark told = record {
+    shown = λ k h left. ⊎_elim
+        (λ (b : k < min (64 * w) (length labels)). more (get_or labels k 0) (so_far.shown k b left))
+        (λ p. subst (Shows after) (sym (label-here p.0 k p.2)) (mark p.0 p.3 (sym (bit-here p.0 p.1 k p.2) ∙ left)))
         (split k h);
     only = λ l b. ⊎_elim
-        (λ s. let o = so_far.only l s in (o.0, (o.1.0, omega (arith, o.1.1), o.1.2, o.1.3)))
+        (λ s. let o = so_far.only l s in (o.0, omega (arith, o.1), o.2, o.3))
         (λ g.
-        let k = g.1.0 in
-        (g.0, (64 * w + k, omega (arith, g.1.2, length-drop (64 * w) labels, g.1.1), bit-of_word words w k g.1.1 ∙ g.1.3, sym (get_or-drop (64 * w) labels k 0) ∙ g.1.4)))
-        (given l b);
+        let k = g.0 in
+        (64 * w + k, omega (arith, g.2, length-drop (64 * w) labels, g.1), bit-of_word words w k g.1 ∙ g.3, sym (get_or-drop (64 * w) labels k 0) ∙ g.4))
+        (told l b);
   }
 
   -- the targets of this word are sifted

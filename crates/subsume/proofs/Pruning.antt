@@ -1,11 +1,11 @@
 -- What is struck out by marks is taken by no choice that agrees with the table.
-use Rattle.std.proofs.Common.{◌≡◌, ℕ, ◌<◌, ◌≤◌, List, length, get_or, set, take, sym, ap, ◌∙◌, subst, ⊎_elim, arith}
+use Rattle.std.proofs.Common.{◌≡◌, ℕ, ◌<◌, ◌≤◌, min, List, length, get_or, set, take, sym, ap, ◌∙◌, subst, ⊎_elim, arith}
 use Rattle.std.proofs.lemmas.List.{get_or-set_same, get_or-set_other, get_or_read, get_or_default, get_or-take, length-take-le}
 use Rattle.std.proofs.lemmas.Bool.{cases_eq}
 use Rattle.subsume.specs.declared.bits.BitSet.{BitSet}
 use Rattle.subsume.specs.declared.slot.Slot.{Slot}
 use Rattle.subsume.specs.Bits.{bit_at}
-use Rattle.subsume.specs.Choices.{none, row, left, slot_at, Fits, Pruned, Shows, Marked, Shared, Sifted}
+use Rattle.subsume.specs.Choices.{none, row, left, slot_at, Fits, Pruned, Shows, Given, Shared, Sifted}
 
 -- an element that was read from a list
 pub item : {T : Type 0} (xs ys : List T) (i : ℕ) (x d : T) → xs ≡ ys → i < length xs → x ≡ get_or xs i x → get_or ys i d ≡ x
@@ -23,17 +23,15 @@ row-set_other c i k r n = ap (λ (z : BitSet 4). z.words) (get_or-set_other c i 
 
 -- marks by the first n labels
 module _ (labels : List ℕ) (n : ℕ) (few : n ≤ length labels) where
-  pub marked-first : (words before marks : List ℕ) → Marked words (take n labels) (length (take n labels)) before marks → Marked words labels n before marks
-  marked-first words before marks m =
+  pub given-first : (words marks : List ℕ) → Given words (take n labels) (length (take n labels)) marks → Given words labels n marks
+  given-first words marks m =
       let long = length-take-le n labels few in
       record {
-        shown = λ k h e b.
-            let same = get_or-take n labels k 0 h in
-            subst (Shows marks) same (m.shown k (omega (arith, long, h)) e (subst (Shows before) (sym same) b));
+        shown = λ k h e. subst (Shows marks) (get_or-take n labels k 0 h) (m.shown k (omega (arith, long, h)) e);
         only = λ l b.
             let o = m.only l b in
-            let h : o.1.0 < n = omega (arith, long, o.1.1) in
-            (o.0, (o.1.0, h, o.1.2, sym (get_or-take n labels o.1.0 0 h) ∙ o.1.3));
+            let h : o.0 < n = omega (arith, long, o.1) in
+            (o.0, h, o.2, sym (get_or-take n labels o.0 0 h) ∙ o.3);
       }
 
   pub sifted-first : (before after marks : List ℕ) → Sifted before after (take n labels) (length (take n labels)) marks → Sifted before after labels n marks
@@ -61,14 +59,13 @@ module _ {N : ℕ} (slots : List (Slot N)) (m n : ℕ) where
         let one : P slot = subst P is (fits t ht) in
         ap v (sym same) ∙ sym one
 
-    pub shared-more : (sets : List (BitSet 4)) (first before after : List ℕ) → slot.literal < m → row sets slot.literal ≡ first → Marked first slot.labels n before after
+    pub shared-more : (sets : List (BitSet 4)) (first own before after : List ℕ) → slot.literal < m → row sets slot.literal ≡ first → Given first slot.labels n own
+        → length before ≡ length after → length own ≡ length after → ((l : ℕ) → bit_at after l ≡ min (bit_at before l) (bit_at own l))
         → Shared slots m n sets x before → Shared slots m n sets x after
-    shared-more sets first before after own is-first marked shared = λ f v fits a.
-        let e = told f v fits in
-        let o = a slot.literal own in
-        subst (λ (l : ℕ). Shows after l) (sym e)
-        (marked.shown (f slot.literal) o.0 (ap (λ (ws : List ℕ). bit_at ws (f slot.literal)) (sym is-first) ∙ o.1)
-        (subst (λ (l : ℕ). Shows before l) e (shared f v fits a)))
+    shared-more sets first own before after inside is-first given size long both shared = λ f v fits a h.
+        let o = a slot.literal inside in
+        let here : Shows own (v x) = subst (λ (l : ℕ). Shows own l) (sym (told f v fits)) (given.shown (f slot.literal) o.0 (ap (λ (ws : List ℕ). bit_at ws (f slot.literal)) (sym is-first) ∙ o.1)) in
+        omega (arith, both (v x), shared f v fits a (omega (arith, size, h)), here (omega (arith, long, h)))
 
     pub sift-prunes : (start c : List (BitSet 4)) (before marks : List ℕ) (after : BitSet 4) → slot.literal < length c → row c slot.literal ≡ before
         → Shared slots m n start x marks → Pruned slots m n start c → Sifted before after.words slot.labels n marks

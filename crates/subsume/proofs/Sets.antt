@@ -1,7 +1,7 @@
 -- What is in a set of numbers after a word of it has changed, and its least number.
-use Rattle.std.proofs.Common.{◌≡◌, ℕ, ◌+◌, ◌-◌, ◌*◌, ◌/◌, ◌%◌, ◌^◌, ◌<◌, ◌≤◌, List, length, get_or, set, replicate, Some, None, bit_and, ap, ◌∙◌, sym, ap₂, ⊎_elim, ◌≢◌, arith}
+use Rattle.std.proofs.Common.{◌≡◌, ℕ, zero, suc, ◌+◌, ◌-◌, ◌*◌, ◌/◌, ◌%◌, ◌^◌, ◌<◌, ◌≤◌, List, length, get_or, set, replicate, Some, None, bit_and, ap, ◌∙◌, sym, ap₂, ⊎_elim, ◌≢◌, arith}
 use Rattle.std.specs.Int.{w64, trailing_zeros, bit_not, bit_at as bit}
-use Rattle.std.proofs.lemmas.Nat.Bits.{bit_at-lt, bit_at-zero, bit_at-trailing_zeros, bit_at_ones, bit_at_above, bit_at_clear_same, bit_at_clear_other}
+use Rattle.std.proofs.lemmas.Nat.Bits.{bit_at-lt, bit_at-zero, bit_at-suc, bit_at_lowest, bit_at_and, bit_at_not, bit_at-trailing_zeros, bit_at_ones, bit_at_above, bit_at_clear_same, bit_at_clear_other}
 use Rattle.std.proofs.lemmas.List.{get_or-set_same, get_or-set_other, get_or-replicate, get_or_past, length-replicate}
 use Rattle.std.proofs.lemmas.Nat.{and_le_l, shr-shr}
 use Rattle.std.proofs.Math.Nat.{div-le_self}
@@ -115,36 +115,67 @@ module _ (words : List ℕ) (from : ℕ) (inside : from / 64 < length words) whe
       (λ o. ⊎_elim (λ (b : l / 64 < length words). empty-word words l (none (l / 64) (omega (arith, h, o)) b)) (λ b. none-past words l b) (cases_lt (l / 64) (length words)))
       (cases_eq (l / 64) (from / 64))
 
--- a word without a bit
-abbrev pub cleared : (word k : ℕ) → ℕ
-cleared word k = bit_and word (bit_not w64 (1 * 2 ^ k % 2 ^ 64))
+-- a word without a bit, where b is 1, and as it was, where b is 0
+abbrev pub cleared : (word k b : ℕ) → ℕ
+cleared word k b = bit_and word (bit_not w64 (b * 2 ^ k % 2 ^ 64))
 
 module _ (word k : ℕ) (inside : k < 64) (fits : word < 2 ^ 64) where
-  pub cleared-here : bit (cleared word k) k ≡ 0
+  past : (b l : ℕ) → 64 ≤ l → bit (cleared word k b) l ≡ bit word l
+  past b l h = bit_at_above (cleared word k b) 64 l (omega (arith, and_le_l word (bit_not w64 (b * 2 ^ k % 2 ^ 64)), fits)) h ∙ sym (bit_at_above word 64 l fits h)
+
+  pub cleared-here : bit (cleared word k 1) k ≡ 0
   cleared-here = bit_at_clear_same w64 word k inside
 
-  pub cleared-others : (l : ℕ) → l ≢ k → bit (cleared word k) l ≡ bit word l
-  cleared-others l n =
+  pub cleared-others : (l : ℕ) → l ≢ k → bit (cleared word k 1) l ≡ bit word l
+  cleared-others l n = ⊎_elim (λ (h : l < 64). bit_at_clear_other w64 word k inside l h n) (λ (h : 64 ≤ l). past 1 l h) (cases_lt l 64)
+
+  pub cleared-none : (l : ℕ) → bit (cleared word k 0) l ≡ bit word l
+  cleared-none l =
+      let none : 0 * 2 ^ k % 2 ^ 64 ≡ 0 = omega arith in
       ⊎_elim
-      (λ (h : l < 64). bit_at_clear_other w64 word k inside l h n)
-      (λ (h : 64 ≤ l). bit_at_above (cleared word k) 64 l (omega (arith, and_le_l word (bit_not w64 (1 * 2 ^ k % 2 ^ 64)), fits)) h ∙ sym (bit_at_above word 64 l fits h))
+      (λ (h : l < 64).
+      ap (λ (m : ℕ). bit (bit_and word (bit_not w64 m)) l) none ∙ omega (arith, bit_at_and word (bit_not w64 0) l, bit_at_not w64 0 l (omega arith) h, bit_at-zero l, bit_at-lt word l))
+      (λ (h : 64 ≤ l). past 0 l h)
       (cases_lt l 64)
 
+-- one less than a number: its least bit is gone, and those above stay
+on-half : (n m i : ℕ) → n / 2 ≡ m / 2 → 0 < i → bit n i ≡ bit m i
+on-half n m zero e h = absurd (omega arith)
+on-half n m (suc i) e h = bit_at-suc n i ∙ ap (λ (x : ℕ). bit x i) e ∙ sym (bit_at-suc m i)
+
+on-next : (n m t : ℕ) → ((i : ℕ) → t < i → bit (n / 2) i ≡ bit (m / 2) i) → (i : ℕ) → suc t < i → bit n i ≡ bit m i
+on-next n m t above zero h = absurd (omega arith)
+on-next n m t above (suc i) h = bit_at-suc n i ∙ above i (omega arith) ∙ sym (bit_at-suc m i)
+
+less-one : (k n : ℕ) → bit n k ≡ 1 → ((i : ℕ) → i < k → bit n i ≡ 0) → (bit (n - 1) k ≡ 0) × ((i : ℕ) → k < i → bit (n - 1) i ≡ bit n i)
+less-one zero n here below =
+    let odd : n % 2 ≡ 1 = sym (bit_at_lowest n) ∙ here in
+    (bit_at_lowest (n - 1) ∙ omega (arith, odd), λ i h. on-half (n - 1) n i (omega (arith, odd)) h)
+less-one (suc k) n here below =
+    let even : n % 2 ≡ 0 = sym (bit_at_lowest n) ∙ below 0 (omega arith) in
+    let half : (n - 1) / 2 ≡ n / 2 - 1 = omega (arith, even) in
+    let inner = less-one k (n / 2) (sym (bit_at-suc n k) ∙ here) (λ i h. sym (bit_at-suc n i) ∙ below (suc i) (omega arith)) in (
+      bit_at-suc (n - 1) k ∙ ap (λ (x : ℕ). bit x k) half ∙ inner.0,
+      on-next (n - 1) n k (λ i h. ap (λ (x : ℕ). bit x i) half ∙ inner.1 i h),
+    )
+
 -- the least bit of a word, and the rest
-pub parted : (word : ℕ) → 0 < word → (fits : word < 2 ^ 64) → Parted word (trailing_zeros w64 word) (cleared word (trailing_zeros w64 word))
+pub parted : (word : ℕ) → 0 < word → (fits : word < 2 ^ 64) → Parted word (trailing_zeros w64 word) (bit_and word (word - 1))
 parted word some fits =
     let k = trailing_zeros w64 word in
     let z = bit_at-trailing_zeros w64 word some fits in
-    let rest = cleared word k in
-    let gone : bit rest k ≡ 0 = cleared-here word k z.0 fits in
+    let rest = bit_and word (word - 1) in
+    let bits = bit_at_and word (word - 1) in
+    let one = less-one k word z.1 z.2 in
+    let gone : bit rest k ≡ 0 = omega (arith, bits k, one.0) in
     let other : rest ≢ word = λ e. omega (arith, gone, ap (λ (n : ℕ). bit n k) e, z.1) in
     record {
       inside = z.0;
       here = z.1;
       least = z.2;
       gone = gone;
-      others = cleared-others word k z.0 fits;
-      less = omega (arith, and_le_l word (bit_not w64 (1 * 2 ^ k % 2 ^ 64)), other);
+      others = λ l n. ⊎_elim (λ (h : l < k). omega (arith, bits l, z.2 l h)) (λ (h : k ≤ l). omega (arith, bits l, one.1 l (omega (arith, n)))) (cases_lt l k);
+      less = omega (arith, and_le_l word (word - 1), other);
     }
 
 -- a bit of one word of a set

@@ -58,10 +58,10 @@ pub record Pruned {N : ℕ} (slots : List (Slot N)) (m n : ℕ) (before after : 
 abbrev pub Shows : (marks : List ℕ) → (label : ℕ) → Type 0
 Shows marks label = label < 64 * length marks → bit_at marks label ≡ 1
 
--- of the labels marked before, just those are marked that one of the first j targets gives which is in the set
-pub record Marked (words labels : List ℕ) (j : ℕ) (before after : List ℕ) : Type 0 where
-  pub shown : (k : ℕ) → k < j → bit_at words k ≡ 1 → Shows before (slice_index labels k) → Shows after (slice_index labels k)
-  pub only : (l : ℕ) → bit_at after l ≡ 1 → (bit_at before l ≡ 1) × ((k : ℕ) × (k < j) × (bit_at words k ≡ 1) × (slice_index labels k ≡ l))
+-- just the labels are marked that one of the first j targets gives which is in the set
+pub record Given (words labels : List ℕ) (j : ℕ) (marks : List ℕ) : Type 0 where
+  pub shown : (k : ℕ) → k < j → bit_at words k ≡ 1 → Shows marks (slice_index labels k)
+  pub only : (l : ℕ) → bit_at marks l ≡ 1 → (k : ℕ) × (k < j) × (bit_at words k ≡ 1) × (slice_index labels k ≡ l)
 
 -- the label that a choice gives the variable x is marked, where it agrees with the table
 abbrev pub Shared : {N : ℕ} → List (Slot N) → (m n : ℕ) → List (BitSet 4) → (x : ℕ) → (marks : List ℕ) → Type 0

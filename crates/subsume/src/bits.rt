@@ -1,5 +1,5 @@
 // Sets of numbers, as bits in words of 64.
-ghost use Rattle.std.specs.Prelude.{◌≡◌, ℕ, ◌*◌, ◌<◌, ◌≤◌, ⊤, length, map, sum, count_ones, Decides, ◌≢◌};
+ghost use Rattle.std.specs.Prelude.{◌≡◌, ℕ, ◌*◌, ◌<◌, ◌≤◌, ⊤, min, max, length, map, sum, count_ones, Decides, ◌≢◌};
 ghost use Rattle.subsume.specs.Bits.{bit_at, First, FirstFrom, Popped, PoppedFrom, Only, Parted};
 
 use std::alloc::AllocError;
@@ -68,6 +68,24 @@ impl<const W: usize> BitSet<W> {
         self.words[k / 64] &= !(1u64 << (k % 64));
     }
 
+    // Keeps the numbers that another set has too.
+    pub(super) fn keep(&mut self, other: &BitSet<W>)
+        ensures { (k : ℕ) → bit_at self.new.words k ≡ min (bit_at self.old.words k) (bit_at other.now.words k) }
+    {
+        for w in 0..W {
+            self.words[w] &= other.words[w];
+        }
+    }
+
+    // Puts in the numbers of another set.
+    pub(super) fn add(&mut self, other: &BitSet<W>)
+        ensures { (k : ℕ) → bit_at self.new.words k ≡ max (bit_at self.old.words k) (bit_at other.now.words k) }
+    {
+        for w in 0..W {
+            self.words[w] |= other.words[w];
+        }
+    }
+
     // The least number in the set.
     pub(super) fn first(&self) -> Option<usize>
         ensures { First self.now.words result }
@@ -129,9 +147,8 @@ impl<const W: usize> BitSet<W> {
     pub(super) fn only(&self) -> Option<usize>
         ensures { Only self.now.words result }
     {
-        let mut rest = *self;
-        let k = rest.pop()?;
-        match rest.first() {
+        let k = self.first()?;
+        match self.first_from(k + 1) {
             None => Some(k),
             Some(_) => None,
         }
@@ -151,5 +168,5 @@ pub(super) fn part(word: u64) -> (usize, u64)
     ensures { Parted word result.0 result.1 }
 {
     let k = word.trailing_zeros() as usize;
-    (k, word & !(1u64 << k))
+    (k, word & (word - 1))
 }

@@ -108,6 +108,23 @@ impl View<'_> {
         if !self.covers::<N, K, V, W>(other) {
             return None;
         }
+        // As in `covers`.
+        if self.nodes.len() <= 64 && other.nodes.len() <= 64 {
+            self.first_by::<N, 64, V, 1>(other)
+        } else {
+            self.first_by::<N, K, V, W>(other)
+        }
+    }
+
+    // The same by one choice after the other, with sets of that size.
+    fn first_by<const N: usize, const K: usize, const V: usize, const W: usize>(
+        self,
+        other: View<'_>,
+    ) -> Option<Bounded<u16, N>>
+        requires few { (length self.starts.now ≤ N) × (length other.starts.now ≤ N) × (N ≤ 256) × (K ≤ 65536) × (W ≤ 1024) × (length other.nodes.now ≤ V) }
+        requires variables { Below V self.nodes.now × (V ≤ 65535) }
+        ensures { MatchOption result (Covers (literals_at self.entry.nodes.now self.entry.starts.now) (literals_at other.entry.nodes.now other.entry.starts.now) → ⊥) (λ choice. FirstChoice (literals_at self.entry.nodes.now self.entry.starts.now) (literals_at other.entry.nodes.now other.entry.starts.now) (elems choice)) }
+    {
         let targets = Targets::<V>::new(other);
         let mut slots = Slots::<N, K>::new();
         let table = Table::<N, W>::link(self, &targets, &mut slots);

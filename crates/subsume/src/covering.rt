@@ -20,6 +20,24 @@ impl View<'_> {
         requires variables { Below V self.nodes.now × (V ≤ 65535) }
         ensures { Decides result (Covers (literals_at self.entry.nodes.now self.entry.starts.now) (literals_at other.entry.nodes.now other.entry.starts.now)) }
     {
+        // Labels are places among the other's nodes, slots are places among these nodes, and there are mostly no more variables
+        // than nodes: where these are few, one word and 64 slots hold them all, and are quicker.
+        if self.nodes.len() <= 64 && other.nodes.len() <= 64 {
+            self.covers_by::<N, 64, V, 1>(other)
+        } else {
+            self.covers_by::<N, K, V, W>(other)
+        }
+    }
+
+    // The same, with sets of that size.
+    fn covers_by<const N: usize, const K: usize, const V: usize, const W: usize>(
+        self,
+        other: View<'_>,
+    ) -> bool
+        requires few { (length self.starts.now ≤ N) × (length other.starts.now ≤ N) × (N ≤ 256) × (K ≤ 65536) × (W ≤ 1024) × (length other.nodes.now ≤ V) }
+        requires variables { Below V self.nodes.now × (V ≤ 65535) }
+        ensures { Decides result (Covers (literals_at self.entry.nodes.now self.entry.starts.now) (literals_at other.entry.nodes.now other.entry.starts.now)) }
+    {
         let targets = Targets::<V>::new(other);
         let mut slots = Slots::<N, K>::new();
         let table = Table::<N, W>::link(self, &targets, &mut slots);

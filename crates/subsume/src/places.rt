@@ -1,12 +1,12 @@
 // Where the words of the targets end, and where they stand first. The first place of a word is its label: equal words have
 // the same, and others another.
-ghost use Rattle.std.specs.Prelude.{◌≡◌, ◌<◌, ◌≤◌, length};
-ghost use Rattle.term.specs.Coding.{word_at};
+ghost use Rattle.std.specs.Prelude.{◌≡◌, ◌<◌, ◌≤◌, length, Decides};
+ghost use Rattle.term.specs.Coding.{word_at, Next};
 ghost use Rattle.subsume.specs.Meeting.{place_of, Ends, Firsts, number, hash_of};
 ghost use Rattle.subsume.specs.Ending.{Ends-prop};
 
 use super::view::View;
-use term::{Node, Symbol, WordAt};
+use term::{Node, Symbol, WordAt, places};
 
 // For each of at most P nodes, a place among them.
 pub type Places<const P: usize> = [u16; P];
@@ -26,10 +26,11 @@ impl<'a, const P: usize> Targets<'a, P> {
         requires { (length view.nodes.now ≤ P) × (P ≤ 65535) }
         ensures { result.view ≡ view.entry }
     {
+        let ends = ends(view);
         Targets {
             view,
-            ends: ends(view),
-            firsts: firsts(view),
+            ends,
+            firsts: firsts(view, &ends),
         }
     }
 }
@@ -51,8 +52,9 @@ fn ends<const P: usize>(targets: View<'_>) -> Places<P>
 }
 
 // For each node of the targets the first place where the same word stands.
-fn firsts<const P: usize>(targets: View<'_>) -> Places<P>
-    requires { (length targets.nodes.now ≤ P) × (P ≤ 65535) }
+fn firsts<const P: usize>(targets: View<'_>, ends: &[u16]) -> Places<P>
+    requires few { (length targets.nodes.now ≤ P) × (P ≤ 65535) }
+    requires ends { Ends targets.nodes.now ends.now }
     ensures { Firsts targets.entry.nodes.now result }
 {
     let mut places = [0; P];
@@ -63,12 +65,12 @@ fn firsts<const P: usize>(targets: View<'_>) -> Places<P>
             nodes: targets.nodes,
             start: q,
         };
-        let h = hash(word) as usize % P;
+        let h = hash(word, ends[q] as usize) as usize % P;
         let p = seen[h];
         if p >= q as u16 {
             seen[h] = q as u16;
             places[q] = q as u16;
-        } else if word.is_same(word.at(p as usize)) {
+        } else if stands_at(word, p as usize) {
             places[q] = p;
         } else {
             places[q] = first_place(word) as u16;
@@ -83,21 +85,31 @@ fn first_place(word: WordAt<'_>) -> usize
     ensures bound { result ≤ word.entry.start }
 {
     for p in 0..word.start {
-        if word.is_same(word.at(p)) {
+        if stands_at(word, p) {
             return p;
         }
     }
     word.start
 }
 
-// A hash of a word, by which most that differ are told apart.
-fn hash(word: WordAt<'_>) -> u16
+// Whether the word stands at a place too. Mostly its first node tells.
+fn stands_at(word: WordAt<'_>, p: usize) -> bool
+    requires { p < length word.nodes.now }
+    ensures { Decides result (word_at word.entry.nodes.now word.entry.start ≡ word_at word.entry.nodes.now p) }
+{
+    let node = word.nodes[word.start];
+    node == word.nodes[p] && (places(node) == 0 || word.is_same(word.at(p)))
+}
+
+// A hash of a word that ends at a place, by which most that differ are told apart.
+fn hash(word: WordAt<'_>, end: usize) -> u16
+    requires { Next word.nodes.now word.start end }
     ensures value { result ≡ hash_of (word_at word.entry.nodes.now word.entry.start) }
     ensures bound { result < 4096 }
 {
     // A loop and no `fold`, since each turn relies on an invariant: the hash is below 4096.
     let mut hash: u32 = 0;
-    for node in &word.nodes[word.start..word.end()] {
+    for node in &word.nodes[word.start..end] {
         hash = (hash * 31 + number(*node)) % 4096;
     }
     hash as u16

@@ -1,8 +1,8 @@
 // Strikes out candidates that no choice of targets can take: those on which two literals that share a variable disagree.
-ghost use Rattle.std.specs.Prelude.{◌≡◌, ℕ, ◌*◌, ◌<◌, ◌≤◌, length, slice_index, option_copied, Decides, ◌≢◌, ◌⊎◌};
+ghost use Rattle.std.specs.Prelude.{◌≡◌, ℕ, ◌*◌, ◌<◌, ◌≤◌, length, slice_index, option_copied, Decides, IfSome, ◌≢◌, ◌⊎◌};
 ghost use Rattle.std.specs.Int.{bit_at as bit};
 ghost use Rattle.subsume.specs.Bits.{bit_at};
-ghost use Rattle.subsume.specs.Choices.{Shows, Marked, Shared, Standing, Sifted, Pruned};
+ghost use Rattle.subsume.specs.Choices.{Shows, Given, Shared, Standing, Sifted, Pruned};
 
 use super::bits::{BitSet, part};
 use super::slot::Slot;
@@ -11,26 +11,26 @@ use super::table::Table;
 // How many variables are looked at again before pruning stops.
 const ROUNDS: usize = 65536;
 
-// Of the marked labels, those that a target gives that is left. A label beyond what can be marked strikes out nothing.
-fn mark<const W: usize>(left: &BitSet<4>, labels: &[u16], before: &BitSet<W>) -> BitSet<W>
+// The labels of the targets that are left. A label beyond what a set can hold is left out.
+fn given<const W: usize>(left: &BitSet<4>, labels: &[u16]) -> BitSet<W>
     requires { (length labels.now ≤ 256) × (W ≤ 1024) }
-    ensures { Marked left.now.words labels.now (length labels.now) before.now.words result.words }
+    ensures { Given left.now.words labels.now (length labels.now) result.words }
 {
     let mut marks = BitSet::<W>::new();
     for w in 0..4 {
         if 64 * w >= labels.len() {
             break;
         }
-        mark_word(left.words[w], &labels[64 * w..], before, &mut marks);
+        mark_word(left.words[w], &labels[64 * w..], &mut marks);
     }
     marks
 }
 
-// The same for the targets of one word.
-fn mark_word<const W: usize>(word: u64, labels: &[u16], before: &BitSet<W>, marks: &mut BitSet<W>)
-    ensures here { (k : ℕ) → k < length labels.now → bit word k ≡ 1 → Shows before.now.words (slice_index labels.now k) → Shows marks.new.words (slice_index labels.now k) }
+// Marks the labels of the targets of one word.
+fn mark_word<const W: usize>(word: u64, labels: &[u16], marks: &mut BitSet<W>)
+    ensures here { (k : ℕ) → k < length labels.now → bit word k ≡ 1 → Shows marks.new.words (slice_index labels.now k) }
     ensures others { (l : ℕ) → bit_at marks.old.words l ≡ 1 → bit_at marks.new.words l ≡ 1 }
-    ensures only { (l : ℕ) → bit_at marks.new.words l ≡ 1 → (bit_at marks.old.words l ≡ 1) ⊎ ((bit_at before.now.words l ≡ 1) × ((k : ℕ) × (k < 64) × (k < length labels.now) × (bit word k ≡ 1) × (slice_index labels.now k ≡ l))) }
+    ensures only { (l : ℕ) → bit_at marks.new.words l ≡ 1 → (bit_at marks.old.words l ≡ 1) ⊎ ((k : ℕ) × (k < 64) × (k < length labels.now) × (bit word k ≡ 1) × (slice_index labels.now k ≡ l)) }
 {
     let mut rest = word;
     while rest != 0 {
@@ -39,7 +39,7 @@ fn mark_word<const W: usize>(word: u64, labels: &[u16], before: &BitSet<W>, mark
             break;
         }
         let label = labels[k] as usize;
-        if label < 64 * W && before.test(label) {
+        if label < 64 * W {
             marks.include(label);
         }
         rest = others;
@@ -77,8 +77,8 @@ fn sift_word<const W: usize>(word: u64, labels: &[u16], marks: &BitSet<W>) -> u6
             break;
         }
         let label = labels[k] as usize;
-        if label < 64 * W && !marks.test(label) {
-            kept &= !(1u64 << k);
+        if label < 64 * W {
+            kept &= !(u64::from(!marks.test(label)) << k);
         }
         rest = others;
     }
@@ -98,22 +98,29 @@ impl<const N: usize, const W: usize> Table<'_, N, W> {
         }
     }
 
-    // Marks the labels that each literal with the variable `x` has a candidate for.
-    fn shared(&self, x: usize, sets: &[BitSet<4>]) -> BitSet<W>
+    // The labels that each literal with the variable `x` has a candidate for; or none, where they have all the same labels, so
+    // that there is nothing to strike out.
+    fn shared(&self, x: usize, sets: &[BitSet<4>]) -> Option<BitSet<W>>
         requires { length self.now.literals.starts.now ≤ length sets.now }
-        ensures { Shared self.now.slots.now (length self.now.literals.starts.now) (length self.now.targets.starts.now) sets.now x result.words }
+        ensures { IfSome result (λ marks. Shared self.now.slots.now (length self.now.literals.starts.now) (length self.now.targets.starts.now) sets.now x marks.words) }
     {
         let n = self.targets.len();
         let mut marks = BitSet::<W>::full();
+        let mut all = BitSet::<W>::new();
         let mut at = self.last.get(x).copied().flatten();
         for _ in 0..self.slots.len() {
             let Some(slot) = self.slot(at, x) else {
                 break;
             };
-            marks = mark(&sets[slot.literal as usize], &slot.labels[..n], &marks);
+            let own = given(&sets[slot.literal as usize], &slot.labels[..n]);
+            marks.keep(&own);
+            all.add(&own);
             at = slot.before;
         }
-        marks
+        if marks.words == all.words {
+            return None;
+        }
+        Some(marks)
     }
 
     // Strikes out the candidates that give the variable `x` a label that is not marked. The variables of literals that lose
@@ -166,8 +173,9 @@ impl<const N: usize, const W: usize> Table<'_, N, W> {
         if last.before.is_none() {
             return;
         }
-        let marks = self.shared(x, sets);
-        self.strike(x, &marks, sets, queue);
+        if let Some(marks) = self.shared(x, sets) {
+            self.strike(x, &marks, sets, queue);
+        }
         if x < 64 * W {
             queue.exclude(x);
         }

@@ -3,10 +3,10 @@ use Rattle.term.specs.Coding.{word_at}
 use Rattle.subsume.proofs.FirstPlaces.{first-place}
 use Rattle.subsume.proofs.places.first_place.Goals as goal
 
-pub returns-then-is_same-clause-value : goal.returns-then-is_same-clause-value
-returns-then-is_same-clause-value c =
+pub returns-then-stands_at-clause-value : goal.returns-then-stands_at-clause-value
+returns-then-stands_at-clause-value c =
     let w = c.args.word in
-    let same = rw (c.at.ensures.nodes, c.at.ensures.start) at (c.is_same.ensures.0 c.if-is_same.true) in
+    let same = c.stands_at.ensures.0 c.if-stands_at.true in
     let inside = w.inside in
     sym (first-place w.nodes.now (word_at w.nodes.now w.start) c.loop-p.p (omega arith) (sym same) c.loop-p.invariant)
 

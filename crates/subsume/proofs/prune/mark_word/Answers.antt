@@ -1,12 +1,11 @@
-use Rattle.std.proofs.Common.{inr, ap, ◌≡◌, ℕ, get_or, ◌∙◌, sym, subst, ⊎_elim, arith}
-use Rattle.std.proofs.lemmas.Bool.{cases_eq, both_ways}
+use Rattle.std.proofs.Common.{inr, ◌≡◌, ℕ, get_or, ◌∙◌, sym, subst, ⊎_elim, arith}
+use Rattle.std.proofs.lemmas.Bool.{cases_eq}
 use Rattle.subsume.specs.Bits.{bit_at}
 use Rattle.subsume.proofs.Marking.{half-on, rest-less, shows-more}
 use Rattle.subsume.proofs.prune.mark_word.Goals as goal
-use Rattle.subsume.proofs.prune.mark_word.Goals.{else-label-via-then-label+else-test, else-label-via-else-label}
 
-pub loop-rest-preserved-then-test : goal.loop-rest-preserved-then-test
-loop-rest-preserved-then-test g c =
+pub loop-rest-preserved-then-label : goal.loop-rest-preserved-then-label
+loop-rest-preserved-then-label g c =
     let marks = c.loop-rest.marks in
     let after = c.include.new.self in
     let p = c.part-k in
@@ -16,11 +15,11 @@ loop-rest-preserved-then-test g c =
     (λ n. c.include.ensures.others l n ∙ b)
     (cases_eq l label) in
     record {
-      here = half-on c.args.labels.now c.args.word c.args.before.now.words c.loop-rest.rest p.result.0 p.result.1 marks.words after.words p.ensures
-          (shows-more marks.words after.words (after.sized ∙ sym marks.sized) more) (λ _ _. c.include.ensures.here) c.loop-rest.invariant.here;
+      here = half-on c.args.labels.now c.args.word c.loop-rest.rest p.result.0 p.result.1 marks.words after.words p.ensures
+          (shows-more marks.words after.words (after.sized ∙ sym marks.sized) more) (λ _. c.include.ensures.here) c.loop-rest.invariant.here;
       others = λ l b. more l (c.loop-rest.invariant.others l b);
       only = λ l b. ⊎_elim
-          (λ (e : l ≡ label). inr (ap (bit_at c.args.before.now.words) e ∙ c.test.ensures.0 c.if-test.true, (p.result.0, p.ensures.inside, c.if-k-labels.false, c.loop-rest.invariant.rest p.result.0 p.ensures.here, sym e)))
+          (λ (e : l ≡ label). inr (p.result.0, p.ensures.inside, c.if-k-labels.false, c.loop-rest.invariant.rest p.result.0 p.ensures.here, sym e))
           (λ n. c.loop-rest.invariant.only l (sym (c.include.ensures.others l n) ∙ b))
           (cases_eq l label);
       rest = rest-less c.args.word c.loop-rest.rest p.result.0 p.result.1 p.ensures c.loop-rest.invariant.rest;
@@ -29,14 +28,10 @@ loop-rest-preserved-then-test g c =
 pub loop-rest-preserved : goal.loop-rest-preserved
 loop-rest-preserved g c =
     let marks = c.loop-rest.marks in
-    let before = c.args.before.now in
     let p = c.part-k in
     record {
-      here = half-on c.args.labels.now c.args.word before.words c.loop-rest.rest p.result.0 p.result.1 marks.words marks.words p.ensures (λ l s. s)
-          (λ s h. elim c.else-label.branch [
-            | else-label-via-then-label+else-test w ↦ absurd (both_ways _ w.if-test.false (w.test.ensures.1 (s (omega (arith, before.sized, w.if-label.true)))))
-            | else-label-via-else-label w ↦ absurd (omega (arith, marks.sized, h, w.if-label.false))
-          ])
+      here = half-on c.args.labels.now c.args.word c.loop-rest.rest p.result.0 p.result.1 marks.words marks.words p.ensures (λ l s. s)
+          (λ h. absurd (omega (arith, marks.sized, h, c.if-label.false)))
           c.loop-rest.invariant.here;
       others = c.loop-rest.invariant.others;
       only = c.loop-rest.invariant.only;

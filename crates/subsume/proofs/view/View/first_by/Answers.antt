@@ -1,7 +1,7 @@
 use Rattle.std.proofs.Common.{◌∙◌}
 use Rattle.bounded.specs.Elems.{elems}
 use Rattle.subsume.proofs.Firsts.{first-of_all}
-use Rattle.subsume.proofs.view.View.first_choice.Goals as goal
+use Rattle.subsume.proofs.view.View.first_by.Goals as goal
 
 pub returns : goal.returns
 returns g c =

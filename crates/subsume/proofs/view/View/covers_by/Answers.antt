@@ -1,6 +1,6 @@
 use Rattle.std.proofs.Common.{◌∙◌}
 use Rattle.subsume.proofs.Covered.{searched-decides}
-use Rattle.subsume.proofs.view.View.covers.Goals as goal
+use Rattle.subsume.proofs.view.View.covers_by.Goals as goal
 
 pub returns : goal.returns
 returns g c =
