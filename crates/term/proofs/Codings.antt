@@ -83,9 +83,6 @@ decode-all us = ap decode (sym (append-nil (codes us))) ∙ decode-codes us [] �
 pub meant : (u : Word) (nodes : List Node) → nodes ≡ code u → hd (decode nodes) ≡ u
 meant u nodes e = ap hd (ap decode e ∙ decode-one u)
 
-pub same_code : (u v : Word) → code u ≡ code v → u ≡ v
-same_code u v e = ap hd (sym (decode-one u) ∙ ap decode e ∙ decode-one v)
-
 -- whole nodes are the nodes of their words
 pub code-decode : (nodes : List Node) → Whole nodes → codes (decode nodes) ≡ nodes
 unfolding Whole decode

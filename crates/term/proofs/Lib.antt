@@ -5,6 +5,7 @@ pub mod Leastness
 pub mod Codings
 pub mod Laws
 pub mod Walked
+pub mod Beside
 pub mod Pairings
 pub mod Joinings
 pub mod Matchings

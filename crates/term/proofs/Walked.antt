@@ -56,6 +56,16 @@ module _ (nodes : List Node) where
         rest = ap (after (m - 1)) n.rest ∙ after-step m (words_at nodes p) h (omega (arith, g.more)) ∙ g.rest;
       })
 
+  pub walked_node : (k m p start : ℕ) (d : Node) → Whole nodes → 0 < m → Walked nodes k m p start → Walked nodes k (m - 1 + places_of (get_or nodes p d)) (p + 1) start
+  walked_node k m p start d w h g =
+      let o = on nodes p m d w h g.more in
+      record {
+        from = omega (arith, g.from);
+        within = omega (arith, walked-in k m p start h g);
+        more = o.enough;
+        rest = o.same ∙ g.rest;
+      }
+
   module _ (i : ℕ) (d : Node) (inside : i < length nodes) where
     pub walked-first : (k m : ℕ) → Whole nodes → k ≡ places_of (get_or nodes i d) → m ≡ k → Walked nodes k m (i + 1) (i + 1)
     walked-first k m w e f =

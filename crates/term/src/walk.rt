@@ -32,21 +32,34 @@ impl<'a> WordAt<'a> {
     pub fn end(self) -> usize
         ensures { Next self.entry.nodes.now self.entry.start result }
     {
+        let mut end = self.start;
         let mut need: usize = 1;
-        for (passed, node) in self.nodes[self.start..].iter().enumerate() {
-            if need == 0 {
-                return self.start + passed;
-            }
-            need = need - 1 + places(*node);
+        // No loop over the nodes: how many words are still to come is known only after each node.
+        while need > 0 {
+            need = need - 1 + places(self.nodes[end]);
+            end += 1;
         }
-        self.nodes.len()
+        end
     }
 
     // Whether two words are the same.
     pub fn is_same(self, other: WordAt<'_>) -> bool
         ensures { Decides result (word_at self.entry.nodes.now self.entry.start ≡ word_at other.entry.nodes.now other.entry.start) }
     {
-        self.nodes[self.start..self.end()] == other.nodes[other.start..other.end()]
+        let mut left = self.start;
+        let mut right = other.start;
+        let mut need: usize = 1;
+        // Node by node, to the first that differ: neither word's end is looked for before.
+        while need > 0 {
+            let node = self.nodes[left];
+            if node != other.nodes[right] {
+                return false;
+            }
+            need = need - 1 + places(node);
+            left += 1;
+            right += 1;
+        }
+        true
     }
 }
 

@@ -1,11 +1,11 @@
-use Rattle.std.proofs.Common.{◌≡◌, ◌+◌, ◌<◌, ◌≤◌}
-use Rattle.term.specs.Words.{len}
-use Rattle.term.specs.Coding.{words_at, after, tl}
+use Rattle.std.proofs.Common.{◌+◌, ◌-◌, ◌<◌, length}
+use Rattle.term.proofs.Walked.{Walked}
 use Rattle.term.proofs.walk.WordAt.end.Given as goal
 
--- after the words that are still to come stands what stands after the word
-abbrev pub invariant-loop-passed : goal.invariant-loop-passed
-invariant-loop-passed l =
-    (0 < l.passed + l.need)
-    × (l.need ≤ len (words_at l.self.nodes.now (l.self.start + l.passed)))
-    × (after l.need (words_at l.self.nodes.now (l.self.start + l.passed)) ≡ tl (words_at l.self.nodes.now l.self.start))
+-- what stands after the words that are still to come is what stands after the word
+abbrev pub invariant-loop-need : goal.invariant-loop-need
+invariant-loop-need l = (l.self.start < l.end + l.need) × Walked l.self.nodes.now 1 l.need l.end l.self.start
+
+-- the nodes left fall
+abbrev pub decreases-loop-need : goal.decreases-loop-need
+decreases-loop-need l = length l.self.nodes.now - l.end
