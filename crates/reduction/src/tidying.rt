@@ -11,11 +11,13 @@ ghost use Rattle.reduction.specs.Tidyings.{Inside, Standing, Turned, Passed, Tak
 use bounded::Bounded;
 use subsume::{BitSet, Slots, State, Table, Targets, View};
 
-// How many literals a clause may have, how many slots help the search, how many variables a clause may have, and how many
-// words of 64 bits a set of them has.
+// How many literals a clause may have, how many slots and fronts help the search, how many variables a clause may have, and
+// how many words of 64 bits a set of them has.
 const LITERALS: usize = 256;
 
 const SLOTS: usize = 1024;
+
+const FRONTS: usize = 256;
 
 const VARIABLES: usize = 4096;
 
@@ -147,7 +149,7 @@ pub fn tidied(clause: View<'_>) -> Option<Bounded<usize, 16>>
         gone: BitSet::new(),
     };
     let words = Targets::<VARIABLES>::new(clause);
-    let mut slots = Slots::<LITERALS, SLOTS>::new();
+    let mut slots = Slots::<LITERALS, SLOTS, FRONTS>::new();
     let (mut image, mut mapped) = whole(clause);
     let mut at = 0;
     loop {

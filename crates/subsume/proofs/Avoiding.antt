@@ -8,6 +8,7 @@ use Rattle.term.specs.Coding.{word_at}
 use Rattle.term.specs.Words.{Word, var, sub}
 use Rattle.term.specs.declared.node.Node.{Node}
 use Rattle.subsume.specs.declared.bits.BitSet.{BitSet}
+use Rattle.subsume.specs.declared.front.Front.{Front}
 use Rattle.subsume.specs.declared.slot.Slot.{Slot}
 use Rattle.subsume.specs.Bits.{bit_at}
 use Rattle.subsume.specs.Choices.{left, row, pick, picked, Fewer, Removed, Pruned, Picked, Made, Clear, Avoids}
@@ -88,9 +89,9 @@ module _ (N : List Node) (S : List ℕ) (M : List Node) (T : List ℕ) (gone : L
     chosen = λ k h j e. let z : None ≡ Some j = sym (n k h) ∙ e in cc;
   }
 
-  pub cut-spared : {C : ℕ} (slots : List (Slot C)) → Linked N S M T slots → Pruned slots (length S) (length T) mid after → Spared N S M T before → SparedOutside N S M T gone after
-  cut-spared slots linked p spared f inside w =
-      p.keeps f (λ x. place_of M (w.0 x)) (fits-works N S M T slots f linked (λ k h. (inside k h).0) w)
+  pub cut-spared : {C : ℕ} (fronts : List (Front C)) (slots : List Slot) → Linked N S M T fronts slots → Pruned fronts slots (length S) (length T) mid after → Spared N S M T before → SparedOutside N S M T gone after
+  cut-spared fronts slots linked p spared f inside w =
+      p.keeps f (λ x. place_of M (w.0 x)) (fits-works N S M T fronts slots f linked (λ k h. (inside k h).0) w)
       (λ k h. let a = spared f (λ l g. (inside l g).0) w k h in (a.0, (c.done k (omega arith)).kept (f k) a.1 (inside k h).1))
 
 -- a choice of targets that are not gone, by the literals

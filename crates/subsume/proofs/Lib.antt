@@ -10,5 +10,6 @@ mod Links
 pub mod Choosing
 mod Firsts
 mod Walking
+mod Fronts
 mod Avoiding
 mod FirstPlaces

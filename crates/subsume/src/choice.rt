@@ -7,6 +7,7 @@ ghost use Rattle.subsume.specs.Steps.{NoneFrom, FirstFrom, Begun};
 ghost use Rattle.subsume.specs.FirstChoices.{Chooses, FirstChoice};
 
 use super::check::check;
+use super::front::FRONTS;
 use super::places::Targets;
 use super::slot::Slots;
 use super::state::State;
@@ -109,7 +110,7 @@ impl View<'_> {
             return None;
         }
         let targets = Targets::<V>::new(other);
-        let mut slots = Slots::<N, K>::new();
+        let mut slots = Slots::<N, K, FRONTS>::new();
         let table = Table::<N, W>::link(self, &targets, &mut slots);
         let (state, choice) = table.begin();
         table.first_from::<V>(state, choice)
