@@ -11,7 +11,7 @@ use Rattle.subsume.specs.declared.front.Front.{Front}
 use Rattle.subsume.specs.declared.slot.Slot.{Slot}
 use Rattle.subsume.specs.declared.view.View.{View}
 use Rattle.subsume.specs.Choices.{no_front, front_at, slot_at}
-use Rattle.subsume.specs.Fronts.{shape, stands, HasNodes, Follows, Leads, Beyond, Grown}
+use Rattle.subsume.specs.Fronts.{shape, stands, HasNodes, Follows, Leads, Labelled, Beyond, Grown}
 use Rattle.subsume.specs.Meeting.{Reached, Advanced, place_of}
 use Rattle.subsume.specs.Solving.{TurnsAt, Named, Linked, LeadsAt, Fronted}
 use Rattle.subsume.proofs.Walking.{reached-first, reached-inside, reached-gives, reached-on}
@@ -24,6 +24,11 @@ shape-advanced (Variable x) (Variable y) e b (Some q) None g = g
 shape-advanced (Variable x) (Applied t l) e b o r g = absurd (cc)
 shape-advanced (Applied s k) (Variable y) e b o r g = absurd (cc)
 shape-advanced (Applied s k) (Applied t l) e b o r g = subst (λ (z : Node). Advanced z b o r) e g
+
+labelled-variable : {C : ℕ} (b : List Node) (targets : List ℕ) (front : Front C) (node : Node) (labels : List ℕ) → Labelled b targets front node labels → shape node ≡ Variable 0
+    → (j q : ℕ) → j < length targets → stands front j ≡ Some q → get_or labels j 0 ≡ place_of b (word_at b q)
+labelled-variable b targets front (Variable x) labels l e = l
+labelled-variable b targets front (Applied s k) labels l e = absurd (cc)
 
 module _ {C : ℕ} (fronts : List (Front C)) (new : Front C) where
   abbrev more : List (Front C)
@@ -132,7 +137,7 @@ module _ (l v : View) where
 
           by-place : (o : Option ℕ) → stands (front_at fronts new.parent) j ≡ o → get_or new.labels j 0 ≡ place_of M (θ x)
           by-place None e = absurd ((gives None e).1 refl θ t)
-          by-place (Some q) e = beyond.labels j q h e ∙ ap (place_of M) (sym (((gives (Some q) e).0 q refl).1 θ t))
+          by-place (Some q) e = labelled-variable M T (front_at fronts new.parent) node new.labels beyond.labels ((parent-leads i k leads).1 ∙ ap shape is) j q h e ∙ ap (place_of M) (sym (((gives (Some q) e).0 q refl).1 θ t))
 
       pub fronted-more : Fronted N S M T (fronts ++ new ∷ [])
       fronted-more = record {

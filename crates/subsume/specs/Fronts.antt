@@ -29,11 +29,16 @@ abbrev pub Leads : {N : ℕ} → List (Front N) → List Node → (i k r : ℕ) 
 Leads fronts a i zero r = r ≡ 0
 Leads fronts a i (suc k) r = Follows fronts (front_at fronts r).parent (slice_index_or a (i + k) (Variable 0)) r × Leads fronts a i k (front_at fronts r).parent
 
--- one node on from a front, in each of the targets at some places; the labels are those of the words where it stood
+-- the labels of the words where a walk stands that meets a variable
+abbrev pub Labelled : {N : ℕ} → List Node → (targets : List ℕ) → Front N → Node → (labels : List ℕ) → Type 0
+Labelled b targets front (Variable x) labels = (j q : ℕ) → j < length targets → stands front j ≡ Some q → slice_index labels j ≡ place_of b (word_at b q)
+Labelled b targets front (Applied s k) labels = Unit {0}
+
+-- one node on from a front, in each of the targets at some places
 pub record Beyond {N : ℕ} (b : List Node) (targets : List ℕ) (before : Front N) (node : Node) (after : Front N) : Type 0 where
   pub shaped : after.node ≡ shape node
   pub advanced : (j : ℕ) → j < length targets → Advanced node b (stands before j) (stands after j)
-  pub labels : (j q : ℕ) → j < length targets → stands before j ≡ Some q → slice_index after.labels j ≡ place_of b (word_at b q)
+  pub labels : Labelled b targets before node after.labels
 
 -- there is one front more, which the node leads to from front r; or all are as before
 abbrev pub Grown : {N : ℕ} → List Node → (targets : List ℕ) → (r : ℕ) → Node → (before after : List (Front N)) → Type 0

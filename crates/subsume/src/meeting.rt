@@ -3,7 +3,7 @@ ghost use Rattle.std.specs.Prelude.{◌≡◌, ℕ, ◌<◌, ◌≤◌, length, 
 ghost use Rattle.term.specs.Matched.{Turns};
 ghost use Rattle.term.specs.Words.{Word};
 ghost use Rattle.subsume.specs.Bits.{bit_at};
-ghost use Rattle.subsume.specs.Fronts.{shape, stands, Beyond};
+ghost use Rattle.subsume.specs.Fronts.{shape, stands, Labelled, Beyond};
 ghost use Rattle.subsume.specs.Meeting.{Stepped, Reached};
 
 use super::bits::BitSet;
@@ -63,19 +63,36 @@ impl<const N: usize> Front<N> {
         ensures beyond { Beyond targets.now.view.nodes.now targets.now.view.starts.now self.now node result }
     {
         let mut at = [None; N];
-        let mut labels = [0; N];
         for j in 0..targets.view.len() {
             if let Some(q) = self.at[j] {
                 at[j] = beside(node, targets, q);
-                labels[j] = targets.firsts[q as usize];
             }
         }
         Front {
             parent: r,
             node: shape(node),
             at,
-            labels,
+            labels: self.labels(node, targets),
         }
+    }
+
+    // For each target the label of the word that a variable meets here; of a symbol nothing is asked.
+    fn labels<const P: usize>(&self, node: Node, targets: &Targets<'_, P>) -> [u16; N]
+        requires few { length targets.now.view.starts.now ≤ N }
+        requires inside { (j q : ℕ) → j < length targets.now.view.starts.now → stands self.now j ≡ Some q → q < length targets.now.view.nodes.now }
+        ensures labelled { Labelled targets.now.view.nodes.now targets.now.view.starts.now self.now node result }
+        ensures size { length result ≡ N }
+    {
+        let mut labels = [0; N];
+        if let Node::Applied(_, _) = node {
+            return labels;
+        }
+        for j in 0..targets.view.len() {
+            if let Some(q) = self.at[j] {
+                labels[j] = targets.firsts[q as usize];
+            }
+        }
+        labels
     }
 
     // Of the first `n` targets those in the set in which the walk has not ended.
