@@ -10,6 +10,7 @@ mod Links
 pub mod Choosing
 mod Firsts
 mod Walking
+mod Standings
 mod Fronts
 mod Avoiding
 mod FirstPlaces

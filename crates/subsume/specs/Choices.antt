@@ -36,9 +36,10 @@ abbrev pub no_front : (N : ℕ) → Front N
 no_front N = record {
   parent = 0;
   node = Variable 0;
-  at = replicate N None;
+  met = none;
+  at = replicate N 0;
   labels = replicate N 0;
-  placed = length-replicate {A = Option ℕ} N None;
+  placed = length-replicate {A = ℕ} N 0;
   sized = length-replicate {A = ℕ} N 0;
 }
 

@@ -4,6 +4,7 @@ use Rattle.term.specs.Coding.{word_at, Next}
 use Rattle.term.specs.declared.node.Node.{Node}
 use Rattle.term.specs.declared.node.Node.TheVariants.{Variable, Applied}
 use Rattle.subsume.specs.declared.front.Front.{Front}
+use Rattle.subsume.specs.Bits.{bit_at}
 use Rattle.subsume.specs.Choices.{front_at}
 use Rattle.subsume.specs.Meeting.{Advanced, place_of}
 
@@ -12,9 +13,15 @@ abbrev pub shape : Node → Node
 shape (Variable x) = Variable 0
 shape (Applied s k) = Applied s k
 
+-- the place q, where the bit is 1
+abbrev pub where_set : (bit q : ℕ) → Option ℕ
+where_set zero q = None
+where_set (suc zero) q = Some q
+where_set (suc (suc bit)) q = None
+
 -- where the walk stands in the target j, if it has not ended there
 abbrev pub stands : {N : ℕ} → Front N → (j : ℕ) → Option ℕ
-stands front j = slice_index_or front.at j None
+stands front j = where_set (bit_at front.met.words j) (slice_index front.at j)
 
 -- the word at i has k nodes or more
 abbrev pub HasNodes : List Node → (i k : ℕ) → Type 0

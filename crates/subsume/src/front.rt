@@ -1,6 +1,7 @@
 // Fronts: where a walk stands in all targets after nodes of some shape, once for all literals that begin so.
 ghost use Rattle.std.specs.Prelude.{◌≡◌, ⊤, length};
 
+use super::bits::BitSet;
 use std::alloc::AllocError;
 use term::Node;
 
@@ -13,8 +14,9 @@ pub struct Front<const N: usize> {
     pub parent: u16,
     // The node, as a variable 0 where it is a variable.
     pub node: Node,
-    // Where the walk stands in each target; none where it has ended.
-    pub at: [Option<u16>; N],
+    // The targets in which the walk has not ended, and where it stands in each.
+    pub met: BitSet<4>,
+    pub at: [u16; N],
     // For each target the label of the word that the node met.
     pub labels: [u16; N],
     ghost placed: { length at ≡ N },

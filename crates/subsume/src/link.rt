@@ -46,7 +46,7 @@ impl<'a, const N: usize, const W: usize> Table<'a, N, W> {
 impl<const N: usize, const K: usize, const F: usize> Slots<N, K, F> {
     // The front where every walk begins.
     fn begin<const P: usize>(&mut self, targets: &Targets<'_, P>)
-        requires few { (length targets.now.view.starts.now ≤ N) × (0 < F) }
+        requires few { (length targets.now.view.starts.now ≤ N) × (N ≤ 256) × (0 < F) }
         requires none { elems self.old.fronts ≡ [] }
         ensures same { self.new.rows ≡ self.old.rows }
         ensures size { length (elems self.new.fronts) ≡ 1 }
@@ -66,7 +66,7 @@ impl<const N: usize, const K: usize, const F: usize> Slots<N, K, F> {
         targets: &Targets<'_, P>,
     ) -> Option<u16>
         requires front { r < length (elems self.old.fronts) }
-        requires few { length targets.now.view.starts.now ≤ N }
+        requires few { (length targets.now.view.starts.now ≤ N) × (N ≤ 256) }
         requires inside { (j q : ℕ) → j < length targets.now.view.starts.now → stands (front_at (elems self.old.fronts) r) j ≡ Some q → q < length targets.now.view.nodes.now }
         ensures same { self.new.rows ≡ self.old.rows }
         ensures grown { Grown targets.now.view.nodes.now targets.now.view.starts.now r node (elems self.old.fronts) (elems self.new.fronts) }
@@ -149,14 +149,16 @@ impl<const N: usize, const K: usize, const F: usize> Slots<N, K, F> {
             let node = literal.nodes[p];
             let Some(s) = self.front_after(r, node, targets) else {
                 let front = &self.fronts.as_slice()[r as usize];
-                return finish(literal, p, front, targets).meet(&left, targets.view.len());
+                finish(literal, p, front, targets).meet(&mut left);
+                return left;
             };
             if let Node::Variable(x) = node {
                 self.add_variable(literals, targets, i, x, s, &mut left);
             }
             r = s;
         }
-        self.fronts.as_slice()[r as usize].meet(&left, targets.view.len())
+        self.fronts.as_slice()[r as usize].meet(&mut left);
+        left
     }
 
     // The slots of literal `i` begin here.

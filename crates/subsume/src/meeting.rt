@@ -1,10 +1,11 @@
 // A walk along one literal and along each target beside it, from front to front.
-ghost use Rattle.std.specs.Prelude.{◌≡◌, ℕ, ◌<◌, ◌≤◌, length, slice_index, Some, None, ◌≢◌};
+ghost use Rattle.std.specs.Prelude.{◌≡◌, ℕ, ◌<◌, ◌≤◌, min, length, slice_index, Some, ◌≢◌};
+ghost use Rattle.std.specs.Int.{bit_at as bit};
 ghost use Rattle.term.specs.Matched.{Turns};
 ghost use Rattle.term.specs.Words.{Word};
 ghost use Rattle.subsume.specs.Bits.{bit_at};
 ghost use Rattle.subsume.specs.Fronts.{shape, stands, Labelled, Beyond};
-ghost use Rattle.subsume.specs.Meeting.{Stepped, Reached};
+ghost use Rattle.subsume.specs.Meeting.{Stepped, Advanced, Reached};
 
 use super::bits::BitSet;
 use super::front::Front;
@@ -40,16 +41,19 @@ fn beside<const P: usize>(node: Node, targets: &Targets<'_, P>, q: u16) -> Optio
 impl<const N: usize> Front<N> {
     // Where a walk begins: in each target at its start.
     pub fn begin<const P: usize>(targets: &Targets<'_, P>) -> Front<N>
-        requires { length targets.now.view.starts.now ≤ N }
+        requires { (length targets.now.view.starts.now ≤ N) × (N ≤ 256) }
         ensures { (j : ℕ) → j < length targets.now.view.starts.now → stands result j ≡ Some (slice_index targets.now.view.starts.now j) }
     {
-        let mut at = [None; N];
+        let mut met = BitSet::<4>::new();
+        let mut at = [0; N];
         for j in 0..targets.view.len() {
-            at[j] = Some(targets.view.starts[j] as u16);
+            met.include(j);
+            at[j] = targets.view.starts[j] as u16;
         }
         Front {
             parent: 0,
             node: Node::Variable(0),
+            met,
             at,
             labels: [0; N],
         }
@@ -57,28 +61,52 @@ impl<const N: usize> Front<N> {
 
     // One node on from this front, which is front `r`.
     pub fn next<const P: usize>(&self, r: u16, node: Node, targets: &Targets<'_, P>) -> Front<N>
-        requires few { length targets.now.view.starts.now ≤ N }
+        requires few { (length targets.now.view.starts.now ≤ N) × (N ≤ 256) }
         requires inside { (j q : ℕ) → j < length targets.now.view.starts.now → stands self.now j ≡ Some q → q < length targets.now.view.nodes.now }
         ensures parent { result.parent ≡ r }
         ensures beyond { Beyond targets.now.view.nodes.now targets.now.view.starts.now self.now node result }
     {
-        let mut at = [None; N];
+        let mut met = BitSet::<4>::new();
+        let mut at = [0; N];
         for j in 0..targets.view.len() {
-            if let Some(q) = self.at[j] {
-                at[j] = beside(node, targets, q);
+            if let Some(q) = self.place(node, j, targets) {
+                met.include(j);
+                at[j] = q;
             }
         }
         Front {
             parent: r,
             node: shape(node),
+            met,
             at,
             labels: self.labels(node, targets),
         }
     }
 
+    // Where the walk stands in the target `j`, if it has not ended there.
+    fn stand(&self, j: usize) -> Option<u16>
+        requires { (j < N) × (N ≤ 256) }
+        ensures { result ≡ stands self.now j }
+    {
+        if self.met.test(j) {
+            Some(self.at[j])
+        } else {
+            None
+        }
+    }
+
+    // Where it stands in the target `j` after the node.
+    fn place<const P: usize>(&self, node: Node, j: usize, targets: &Targets<'_, P>) -> Option<u16>
+        requires target { (j < N) × (N ≤ 256) }
+        requires inside { (q : ℕ) → stands self.now j ≡ Some q → q < length targets.now.view.nodes.now }
+        ensures { Advanced node targets.now.view.nodes.now (stands self.now j) result }
+    {
+        beside(node, targets, self.stand(j)?)
+    }
+
     // For each target the label of the word that a variable meets here; of a symbol nothing is asked.
     fn labels<const P: usize>(&self, node: Node, targets: &Targets<'_, P>) -> [u16; N]
-        requires few { length targets.now.view.starts.now ≤ N }
+        requires few { (length targets.now.view.starts.now ≤ N) × (N ≤ 256) }
         requires inside { (j q : ℕ) → j < length targets.now.view.starts.now → stands self.now j ≡ Some q → q < length targets.now.view.nodes.now }
         ensures labelled { Labelled targets.now.view.nodes.now targets.now.view.starts.now self.now node result }
         ensures size { length result ≡ N }
@@ -88,28 +116,28 @@ impl<const N: usize> Front<N> {
             return labels;
         }
         for j in 0..targets.view.len() {
-            if let Some(q) = self.at[j] {
+            if let Some(q) = self.stand(j) {
                 labels[j] = targets.firsts[q as usize];
             }
         }
         labels
     }
 
-    // Of the first `n` targets those in the set in which the walk has not ended.
-    pub fn meet(&self, left: &BitSet<4>, n: usize) -> BitSet<4>
-        requires { (n ≤ N) × (n ≤ 256) }
-        ensures here { (j q : ℕ) → j < n → stands self.now j ≡ Some q → bit_at left.now.words j ≡ 1 → bit_at result.words j ≡ 1 }
-        ensures fewer { (j : ℕ) → bit_at left.now.words j ≡ 0 → bit_at result.words j ≡ 0 }
-        ensures rest { (j : ℕ) → stands self.now j ≡ None → bit_at result.words j ≡ 0 }
+    // Leaves the targets in which the walk has not ended.
+    pub fn meet(&self, left: &mut BitSet<4>)
+        ensures { (j : ℕ) → bit_at left.new.words j ≡ min (bit_at left.old.words j) (bit_at self.now.met.words j) }
     {
-        let mut met = BitSet::<4>::new();
-        for j in 0..n {
-            if self.at[j].is_some() && left.test(j) {
-                met.include(j);
-            }
+        for w in 0..4 {
+            left.words[w] = both(left.words[w], self.met.words[w]);
         }
-        met
     }
+}
+
+// The bits that both words have.
+fn both(word: u64, other: u64) -> u64
+    ensures { (k : ℕ) → bit result k ≡ min (bit word k) (bit other k) }
+{
+    word & other
 }
 
 // The front at which the rest of a literal ends, from the place `from` on, where there is no room to keep one for each node.
@@ -119,7 +147,7 @@ pub fn finish<const N: usize, const P: usize>(
     front: &Front<N>,
     targets: &Targets<'_, P>,
 ) -> Front<N>
-    requires few { length targets.now.view.starts.now ≤ N }
+    requires few { (length targets.now.view.starts.now ≤ N) × (N ≤ 256) }
     requires reached { (j : ℕ) → j < length targets.now.view.starts.now → Reached literal.nodes.now literal.start from targets.now.view.nodes.now (slice_index targets.now.view.starts.now j) (stands front.now j) }
     ensures { (j : ℕ) → j < length targets.now.view.starts.now → (θ : ℕ → Word) → Turns literal.entry.nodes.now literal.entry.start targets.now.view.nodes.now (slice_index targets.now.view.starts.now j) θ → (q : ℕ) × (stands result j ≡ Some q) }
 {

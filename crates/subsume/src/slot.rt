@@ -2,6 +2,7 @@
 ghost use Rattle.std.specs.Prelude.{◌≡◌, [], length};
 ghost use Rattle.bounded.specs.Elems.{elems};
 
+use super::bits::BitSet;
 use super::front::Front;
 use bounded::Bounded;
 use term::Node;
@@ -38,7 +39,8 @@ impl<const N: usize, const K: usize, const F: usize> Slots<N, K, F> {
             fronts: Bounded::new(Front {
                 parent: 0,
                 node: Node::Variable(0),
-                at: [None; N],
+                met: BitSet::new(),
+                at: [0; N],
                 labels: [0; N],
             }),
             rows: Bounded::new(Slot {

@@ -1,11 +1,5 @@
-use Rattle.std.proofs.Common.{◌≡◌, ℕ, ◌<◌, Some, None}
-use Rattle.subsume.specs.Bits.{bit_at}
-use Rattle.subsume.specs.Fronts.{stands}
+use Rattle.subsume.proofs.Standings.{Meeting}
 use Rattle.subsume.proofs.front.Front.meet.Given as goal
 
-abbrev pub invariant-loop-j : goal.invariant-loop-j
-invariant-loop-j g l = record {
-  here : (k q : ℕ) → k < l.j → stands l.self k ≡ Some q → bit_at l.left.words k ≡ 1 → bit_at l.met.words k ≡ 1;
-  fewer : (k : ℕ) → bit_at l.left.words k ≡ 0 → bit_at l.met.words k ≡ 0;
-  none : (k : ℕ) → stands l.self k ≡ None → bit_at l.met.words k ≡ 0;
-}
+abbrev pub invariant-loop-w : goal.invariant-loop-w
+invariant-loop-w g l = Meeting l.self.met.words l.initial.left.words l.left.words l.w

@@ -1,4 +1,4 @@
-use Rattle.std.proofs.Common.{◌≡◌, suc, ◌<◌, length, get_or, refl, sym, ap, ap₂, ◌∙◌, subst, arith, rules}
+use Rattle.std.proofs.Common.{◌≡◌, suc, ◌<◌, length, get_or, min, refl, sym, ap, ap₂, ◌∙◌, subst, arith, rules}
 use Rattle.bounded.specs.Elems.{elems}
 use Rattle.term.specs.Coding.{word_at}
 use Rattle.term.specs.Words.{sub}
@@ -7,6 +7,7 @@ use Rattle.subsume.specs.Choices.{no_front}
 use Rattle.subsume.specs.Fronts.{stands, Leads}
 use Rattle.subsume.proofs.Fronts.{front-inside, fronted-grown, linked-grown, inside-grown, leads-grown, leads-on, has-nodes, reached-by}
 use Rattle.subsume.proofs.Pruning.{item}
+use Rattle.subsume.proofs.Standings.{is_set}
 use Rattle.subsume.proofs.Walking.{reached-last}
 use Rattle.subsume.proofs.slot.Slots.add_literal.Goals as goal
 use Rattle.subsume.proofs.slot.Slots.add_literal.Goals.{in-Variable, in_default-node}
@@ -35,7 +36,7 @@ front_after-requires g c =
     let at = v.leads.1 in
     let nodes = has-nodes a t u i is.nodes is.start c.end-p-end.result (suc k) c.end-p-end.ensures (omega (arith, at, c.loop-p-test.true)) in
     let before = has-nodes a t u i is.nodes is.start c.end-p-end.result k c.end-p-end.ensures (omega (arith, at, c.loop-p-test.true)) in
-    (search rules, (search rules, (v.inside, (c.requires.few.1, front-inside a t fronts c.loop-p.r i k v.fronted v.inside (c.requires.literal, before, v.leads.2) nodes))))
+    (search rules, (search rules, (v.inside, ((c.requires.few.1, c.requires.few.2), front-inside a t fronts c.loop-p.r i k v.fronted v.inside (c.requires.literal, before, v.leads.2) nodes))))
 
 pub finish-requires : goal.finish-requires
 finish-requires g c =
@@ -58,7 +59,7 @@ finish-requires g c =
       (
         search rules,
         (
-          c.requires.few.1,
+          (c.requires.few.1, c.requires.few.2),
           reached-by a t u i is.nodes is.start after c.loop-p.r k c.loop-p.p c.index-as_slice-r.result
               (fronted-grown a t c.loop-p.r _ fronts after v.inside grown v.fronted) inside (leads-grown a t c.loop-p.r _ fronts after v.inside grown i k (c.requires.literal, before, v.leads.2)) at here,
         ),
@@ -77,7 +78,7 @@ pub returns-in_default-clause-left : goal.returns-in_default-clause-left
 returns-in_default-clause-left g c j h θ y =
     let same = ap₂ word_at c.literal-literal.ensures.nodes c.literal-literal.ensures.start in
     let q = c.finish.ensures j h θ (ap (sub θ) same ∙ y) in
-    c.meet.ensures.here j q.0 (omega (arith, c.len.ensures, h)) q.1 (c.loop-p.invariant.wide j h θ y)
+    c.meet.ensures j ∙ ap₂ min (c.loop-p.invariant.wide j h θ y) (is_set _ _ q.0 q.1)
 
 pub add_variable-requires : goal.add_variable-requires
 add_variable-requires g c =
@@ -163,4 +164,4 @@ returns-clause-left g c j h θ y =
     let same = ap₂ word_at is.nodes is.start in
     let reached = reached-by a t u i is.nodes is.start fronts c.loop-p.r k c.loop-p.p c.index-as_slice-r-2.result v.fronted v.inside (c.requires.literal, nodes, v.leads.2) at here j h in
     let q = reached-last u t j h c.loop-p.p (stands c.index-as_slice-r-2.result j) reached θ (ap (sub θ) same ∙ y) in
-    c.meet-2.ensures.here j q.0 (omega (arith, c.len-2.ensures, h)) q.1 (v.wide j h θ y)
+    c.meet-2.ensures j ∙ ap₂ min (v.wide j h θ y) (is_set _ _ q.0 q.1)
