@@ -17,7 +17,7 @@ const LITERALS: usize = 256;
 
 const SLOTS: usize = 1024;
 
-const FRONTS: usize = 128;
+const FRONTS: usize = 192;
 
 const VARIABLES: usize = 4096;
 

@@ -11,7 +11,8 @@ pub const FRONTS: usize = 64;
 // Where a walk stands after a node, which came after those of another front.
 #[derive(Copy)]
 pub struct Front<const N: usize> {
-    pub parent: u16,
+    // A `usize`, so that no space is left between the fields, and a list of fronts is cleared at once.
+    pub parent: usize,
     // The node, as a variable 0 where it is a variable.
     pub node: Node,
     // The targets in which the walk has not ended, and where it stands in each.

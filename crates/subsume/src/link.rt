@@ -76,7 +76,7 @@ impl<const N: usize, const K: usize, const F: usize> Slots<N, K, F> {
         if found.is_some() {
             return found;
         }
-        let front = self.fronts.as_slice()[r as usize].next(r, node, targets);
+        let front = self.fronts.as_slice()[r as usize].next(r as usize, node, targets);
         self.add_front(front)
     }
 
@@ -90,7 +90,7 @@ impl<const N: usize, const K: usize, const F: usize> Slots<N, K, F> {
         for _ in 0..fronts.len() {
             let s = at?;
             let front = fronts.get(s as usize)?;
-            if r < s && front.parent == r && front.node == wanted {
+            if r < s && front.parent == r as usize && front.node == wanted {
                 return Some(s);
             }
             at = self.sibling.get(s as usize).copied().flatten();
@@ -111,17 +111,17 @@ impl<const N: usize, const K: usize, const F: usize> Slots<N, K, F> {
     }
 
     // Front `s` is found from front `r` on.
-    fn place(&mut self, r: u16, s: u16)
+    fn place(&mut self, r: usize, s: u16)
         ensures { (self.new.fronts ≡ self.old.fronts) × (self.new.rows ≡ self.old.rows) }
     {
-        let first = self.child.get(r as usize).copied().flatten();
+        let first = self.child.get(r).copied().flatten();
         if let Some(sibling) = self.sibling.get_mut(s as usize) {
             *sibling = first;
         }
         if let Some(child) = self.child.get_mut(s as usize) {
             *child = None;
         }
-        if let Some(child) = self.child.get_mut(r as usize) {
+        if let Some(child) = self.child.get_mut(r) {
             *child = Some(s);
         }
     }

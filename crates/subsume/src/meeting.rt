@@ -60,7 +60,7 @@ impl<const N: usize> Front<N> {
     }
 
     // One node on from this front, which is front `r`.
-    pub fn next<const P: usize>(&self, r: u16, node: Node, targets: &Targets<'_, P>) -> Front<N>
+    pub fn next<const P: usize>(&self, r: usize, node: Node, targets: &Targets<'_, P>) -> Front<N>
         requires few { (length targets.now.view.starts.now ≤ N) × (N ≤ 256) }
         requires inside { (j q : ℕ) → j < length targets.now.view.starts.now → stands self.now j ≡ Some q → q < length targets.now.view.nodes.now }
         ensures parent { result.parent ≡ r }
