@@ -210,16 +210,16 @@ pub fn tidied(clause: View<'_>) -> Option<Bounded<usize, 16>>
 {
     // What is small is tidied in less room, and so in less time.
     if clause.len() <= 16 && clause.nodes.len() <= 256 {
-        tidied_in::<16, 128, 256, 4>(clause)
+        tidied_in::<16, 128, 64, 256, 4>(clause)
     } else if clause.nodes.len() <= 1024 {
-        tidied_in::<256, 1024, 1024, 16>(clause)
+        tidied_in::<256, 1024, 192, 1024, 16>(clause)
     } else {
-        tidied_in::<256, 1024, 4096, 64>(clause)
+        tidied_in::<256, 1024, 192, 4096, 64>(clause)
     }
 }
 
-// The same with room for N literals, K slots, V variables and nodes, and W words of 64 bits for sets of words and of variables.
-fn tidied_in<const N: usize, const K: usize, const V: usize, const W: usize>(
+// The same with room for N literals, K slots, F fronts, V variables and nodes, and W words of 64 bits for sets of words and of variables.
+fn tidied_in<const N: usize, const K: usize, const F: usize, const V: usize, const W: usize>(
     clause: View<'_>,
 ) -> Option<Bounded<usize, 16>>
     requires few { (length clause.starts.now ≤ N) × (N ≤ 256) × (K ≤ 65536) × (W ≤ 1024) }
@@ -233,9 +233,9 @@ fn tidied_in<const N: usize, const K: usize, const V: usize, const W: usize>(
         gone: BitSet::new(),
     };
     let words = Targets::<V>::new(clause);
-    let mut own = Slots::<N, K>::new();
+    let mut own = Slots::<N, K, F>::new();
     let whole = Table::<N, W>::link(clause, &words, &mut own);
-    let mut slots = Slots::<N, K>::new();
+    let mut slots = Slots::<N, K, F>::new();
     let (mut image, mut mapped) = all_of::<N>(clause);
     let mut at = 0;
     loop {

@@ -8,6 +8,7 @@ use Rattle.term.specs.Coding.{word_at}
 use Rattle.term.specs.Words.{Word, var, sub}
 use Rattle.term.specs.declared.node.Node.{Node}
 use Rattle.subsume.specs.declared.bits.BitSet.{BitSet}
+use Rattle.subsume.specs.declared.front.Front.{Front}
 use Rattle.subsume.specs.declared.slot.Slot.{Slot}
 use Rattle.subsume.specs.Bits.{bit_at, Within}
 use Rattle.subsume.specs.Choices.{left, row, pick, picked, Among, Fewer, Narrowed, Removed, Pruned, Picked, Made, Clear, Avoids}
@@ -124,10 +125,10 @@ module _ (N : List Node) (S : List ℕ) (M : List Node) (T : List ℕ) (j : ℕ)
   pub held-picked : (picks : List (Option ℕ)) → Fewer mid after (length S) (length T) → Picked before (length S) (length T) picks → Picked after (length S) (length T) picks
   held-picked picks f p = picked-fewer (length S) (length T) before after picks p (λ k l a b e. h.fewer k l a b (f k l a b e))
 
-  pub held-spared : {C : ℕ} (slots : List (Slot C)) → Linked N S M T slots → Pruned slots (length S) (length T) mid after → j < length T
+  pub held-spared : {C : ℕ} (fronts : List (Front C)) (slots : List Slot) → Linked N S M T fronts slots → Pruned fronts slots (length S) (length T) mid after → j < length T
       → (kept gone : List ℕ) → bit_at kept j ≡ 1 → SparedOutside N S M T kept gone before → SparedOutside N S M T kept gone after
-  held-spared slots linked p inside kept gone own spared f within w holds =
-      p.keeps f (λ x. place_of M (w.0 x)) (fits-works N S M T slots f linked (λ k lt. (within k lt).0) w)
+  held-spared fronts slots linked p inside kept gone own spared f within w holds =
+      p.keeps f (λ x. place_of M (w.0 x)) (fits-works N S M T fronts slots f linked (λ k lt. (within k lt).0) w)
       (h.keeps f (spared f within w holds) (λ k lt e. holds k j lt inside own e))
 
 -- what is left then
@@ -144,11 +145,11 @@ module _ (N : List Node) (S : List ℕ) (M : List Node) (T : List ℕ) (gone : L
     chosen = λ k h j e. let z : None ≡ Some j = sym (n k h) ∙ e in cc;
   }
 
-  pub cut-spared : {C : ℕ} (slots : List (Slot C)) → Linked N S M T slots → Pruned slots (length S) (length T) mid after
+  pub cut-spared : {C : ℕ} (fronts : List (Front C)) (slots : List Slot) → Linked N S M T fronts slots → Pruned fronts slots (length S) (length T) mid after
       → (kept was : List ℕ) → Within was gone → SparedOutside N S M T kept was before → SparedOutside N S M T kept gone after
-  cut-spared slots linked p kept was wider spared f inside w holds =
+  cut-spared fronts slots linked p kept was wider spared f inside w holds =
       let early : (l : ℕ) → l < length S → (f l < length T) × (bit_at was (f l) ≡ 0) = λ l g. ((inside l g).0, not-within was gone wider (f l) (inside l g).1) in
-      p.keeps f (λ x. place_of M (w.0 x)) (fits-works N S M T slots f linked (λ k h. (inside k h).0) w)
+      p.keeps f (λ x. place_of M (w.0 x)) (fits-works N S M T fronts slots f linked (λ k h. (inside k h).0) w)
       (λ k h. let a = spared f early w holds k h in (a.0, (c.done k (omega arith)).kept (f k) a.1 (inside k h).1))
 
 -- a choice of targets that are not gone, by the literals

@@ -11,6 +11,7 @@ use Rattle.bounded.specs.declared.list.Bounded.{Bounded}
 use Rattle.term.specs.declared.node.Node.{Node}
 use Rattle.clauses.specs.Clauses.{Covers, literals_at}
 use Rattle.subsume.specs.declared.bits.BitSet.{BitSet}
+use Rattle.subsume.specs.declared.front.Front.{Front}
 use Rattle.subsume.specs.declared.slot.Slot.{Slot}
 use Rattle.subsume.specs.Bits.{bit_at}
 use Rattle.subsume.specs.Choices.{left, slot_at, Among, Fits, Taken, Picked}
@@ -53,9 +54,9 @@ begins-at front js l b h = sym (get_or-take (length front) js l 0 h) ∙ ap (λ 
 
 module _ (N : List Node) (S : List ℕ) (M : List Node) (T : List ℕ) where
   -- a choice that works and takes the target j for literal i stays
-  left-taken : {C : ℕ} (slots : List (Slot C)) (sets last : List (BitSet 4)) (i j : ℕ) → Linked N S M T slots → Taken slots (length S) (length T) sets i j last
+  left-taken : {C : ℕ} (fronts : List (Front C)) (slots : List Slot) (sets last : List (BitSet 4)) (i j : ℕ) → Linked N S M T fronts slots → Taken fronts slots (length S) (length T) sets i j last
       → (f : ℕ → ℕ) → Among sets (length S) (length T) f → Works N S M T f → f i ≡ j → Among last (length S) (length T) f
-  left-taken slots sets last i j linked t f among w e =
+  left-taken fronts slots sets last i j linked t f among w e =
       let mid = t.mid in
       let narrow : Among mid (length S) (length T) f = λ k inside.
       let a = among k inside in (
@@ -72,21 +73,21 @@ module _ (N : List Node) (S : List ℕ) (M : List Node) (T : List ℕ) where
             (λ s. ap (λ (ws : List ℕ). bit_at ws (f k)) (t.others k s) ∙ a.1)
             (cases_eq k i),
       ) in
-      let fits : Fits slots f (λ x. place_of M (w.0 x)) = λ s inside.
+      let fits : Fits fronts slots f (λ x. place_of M (w.0 x)) = λ s inside.
       let l = linked s inside in
       let k = (slot_at slots s).literal in
       l.1 (f k) (among k l.0).0 w.0 (w.1 k l.0) in
       t.pruned.keeps f (λ x. place_of M (w.0 x)) fits narrow
 
-  pub begun-more : {C : ℕ} (slots : List (Slot C)) (front longer : List ℕ) (sets last : List (BitSet 4)) (picks picks' : List (Option ℕ)) (j : ℕ) → Linked N S M T slots
-      → Taken slots (length S) (length T) sets (length front) j last → Begun N S M T front sets picks → Picked last (length S) (length T) picks' → length front < length S → j < length T → longer ≡ front ++ j ∷ []
+  pub begun-more : {C : ℕ} (fronts : List (Front C)) (slots : List Slot) (front longer : List ℕ) (sets last : List (BitSet 4)) (picks picks' : List (Option ℕ)) (j : ℕ) → Linked N S M T fronts slots
+      → Taken fronts slots (length S) (length T) sets (length front) j last → Begun N S M T front sets picks → Picked last (length S) (length T) picks' → length front < length S → j < length T → longer ≡ front ++ j ∷ []
       → Begun N S M T longer last picks'
-  begun-more slots front longer sets last picks picks' j linked t g p more inside is = rw is record {
+  begun-more fronts slots front longer sets last picks picks' j linked t g p more inside is = rw is record {
     few = omega (arith, length_push front j);
     inside = All-push (λ j. j < length T) front j g.inside inside;
     left = λ js c b.
         let q = begins-parts front js j b in
-        left-taken slots sets last (length front) j linked t (λ i. get_or js i 0) (g.left js c q.0) (chooses-working N S M T js c).works q.1;
+        left-taken fronts slots sets last (length front) j linked t (λ i. get_or js i 0) (g.left js c q.0) (chooses-working N S M T js c).works q.1;
     picked = p;
   }
 

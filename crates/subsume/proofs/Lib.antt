@@ -11,6 +11,8 @@ pub mod Choosing
 mod Firsts
 mod Walking
 pub mod Avoiding
+mod Standings
+mod Fronts
 mod FirstPlaces
 mod Retracting
 mod Roots

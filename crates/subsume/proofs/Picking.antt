@@ -5,6 +5,7 @@ use Rattle.std.proofs.lemmas.Bool.{cases_eq}
 use Rattle.std.specs.List.{filter, enumerate_from}
 use Rattle.std.specs.Option.{is_some}
 use Rattle.subsume.specs.declared.bits.BitSet.{BitSet}
+use Rattle.subsume.specs.declared.front.Front.{Front}
 use Rattle.subsume.specs.declared.slot.Slot.{Slot}
 use Rattle.subsume.specs.Bits.{bit_at}
 use Rattle.subsume.specs.Choices.{left, pick, picked, Fewer, Taken, Picked, Uses, Clear, Chosen, undone}
@@ -55,8 +56,8 @@ module _ (m n : ℕ) where
   pub picked-fewer : (sets after : List (BitSet 4)) (picks : List (Option ℕ)) → Picked sets m n picks → Fewer sets after m n → Picked after m n picks
   picked-fewer sets after picks p f = record { within = p.within; alone = λ l h x e k b g. p.alone l h x e k b (f l k h b g) }
 
-  pub picked-taken : {N : ℕ} (slots : List (Slot N)) (sets after : List (BitSet 4)) (picks : List (Option ℕ)) (i j : ℕ) → i < length picks → j < n → Picked sets m n picks → Taken slots m n sets i j after → Picked after m n (set picks i (Some j))
-  picked-taken slots sets after picks i j inside small p t =
+  pub picked-taken : {N : ℕ} (fronts : List (Front N)) (slots : List Slot) (sets after : List (BitSet 4)) (picks : List (Option ℕ)) (i j : ℕ) → i < length picks → j < n → Picked sets m n picks → Taken fronts slots m n sets i j after → Picked after m n (set picks i (Some j))
+  picked-taken fronts slots sets after picks i j inside small p t =
       let fewer : Fewer sets t.mid m n = λ l k h b e.
       ⊎_elim
       (λ (s : l ≡ i).

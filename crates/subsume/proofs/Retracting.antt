@@ -10,9 +10,10 @@ use Rattle.term.specs.Coding.{word_at}
 use Rattle.term.specs.Words.{Word, var, sub}
 use Rattle.term.specs.declared.node.Node.{Node}
 use Rattle.term.proofs.Substitutions.{sub-var}
+use Rattle.subsume.specs.declared.front.Front.{Front}
 use Rattle.subsume.specs.declared.slot.Slot.{Slot}
 use Rattle.subsume.specs.Bits.{bit_at}
-use Rattle.subsume.specs.Choices.{no_slot, slot_at}
+use Rattle.subsume.specs.Choices.{no_slot, slot_at, labels_of}
 use Rattle.subsume.specs.Meeting.{place_of}
 use Rattle.subsume.specs.Retracting.{Retracts, Spares, Moves, Differs}
 use Rattle.subsume.specs.Solving.{TurnsAt, Named, Linked, OpenAt}
@@ -37,16 +38,16 @@ within-more one other w fits none before k h b =
     omega (arith, b, here one, here other, both, ap (λ (z : ℕ). bit z m) none, bit_at-zero m, bit-below other k))
     (cases_lt k (64 * w))
 
-pub stands-in : {K : ℕ} (slots : List (Slot K)) (slot : Slot K) (s : ℕ) → s < length slots → slot_at slots s ≡ slot → Contains slots slot
-stands-in {K} slots slot s h is = (s, h, get_or_default slots s slot (no_slot K) h ∙ is)
+pub stands-in : (slots : List Slot) (slot : Slot) (s : ℕ) → s < length slots → slot_at slots s ≡ slot → Contains slots slot
+stands-in slots slot s h is = (s, h, get_or_default slots s slot no_slot h ∙ is)
 
 module _ (N : List Node) (S : List ℕ) (M : List Node) (T : List ℕ) where
   -- what the table says of a slot
-  abbrev pub Told : {K : ℕ} → Slot K → Type 0
-  Told slot = (slot.literal < length S) × Named N S M T slot.literal slot.variable slot.labels
+  abbrev pub Told : {K : ℕ} → List (Front K) → Slot → Type 0
+  Told fronts slot = (slot.literal < length S) × Named N S M T slot.literal slot.variable (labels_of fronts slot) × (slot.front < length fronts)
 
-  pub told : {K : ℕ} (slots : List (Slot K)) (slot : Slot K) → Linked N S M T slots → Contains slots slot → Told slot
-  told {K} slots slot linked c = subst Told (get_or_default slots c.0 (no_slot K) slot c.1 ∙ c.2) (linked c.0 c.1)
+  pub told : {K : ℕ} (fronts : List (Front K)) (slots : List Slot) (slot : Slot) → Linked N S M T fronts slots → Contains slots slot → Told fronts slot
+  told fronts slots slot linked c = subst (Told fronts) (get_or_default slots c.0 no_slot slot c.1 ∙ c.2) (linked c.0 c.1)
 
   -- of the targets before the word w, each that is left and not gone gives the variable another label
   abbrev pub Others : (left gone : List ℕ) (i x label w : ℕ) → Type 0
@@ -114,7 +115,7 @@ module _ (N : List Node) (S : List ℕ) (M : List Node) (T : List ℕ) (nodes : 
   spares-none left kept gone i inside wide none θ r = let t = target kept gone i inside θ r in absurd (omega (arith, t.2, none t.0 (wide t.0 t.1 θ t.3)))
 
   -- the literal of a slot of a variable that must move is not reached, and where it is kept, there is no such substitution
-  module _ {K : ℕ} (slot : Slot K) (own : Told N S M T slot) (kept first : List ℕ) (moves : Moves kept first M T slot.variable) where
+  module _ {K : ℕ} (fronts : List (Front K)) (slot : Slot) (own : Told N S M T fronts slot) (kept first : List ℕ) (moves : Moves kept first M T slot.variable) where
     inside : slot.literal < length T
     inside = omega (arith, own.0, ap length starts)
 

@@ -3,6 +3,7 @@ use Rattle.std.proofs.Common.{◌≡◌, ℕ, ◌+◌, ◌*◌, ◌<◌, ◌≤�
 use Rattle.std.proofs.lemmas.Bool.{cases_eq, false≢true}
 use Rattle.term.specs.declared.node.Node.{Node}
 use Rattle.subsume.specs.declared.bits.BitSet.{BitSet}
+use Rattle.subsume.specs.declared.front.Front.{Front}
 use Rattle.subsume.specs.declared.slot.Slot.{Slot}
 use Rattle.subsume.specs.Bits.{bit_at}
 use Rattle.subsume.specs.Choices.{left, slot_at, picked, Among, Fits, Pruned, HasTurn, Taken, Made}
@@ -31,23 +32,23 @@ module _ (N : List Node) (S : List ℕ) (M : List Node) (T : List ℕ) where
   one-turn first n j l k a b (inr x) (inr y) = omega (arith, x.0, y.0)
 
   -- a choice that works agrees with the table
-  pub fits-works : {C : ℕ} (slots : List (Slot C)) (f : ℕ → ℕ) → Linked N S M T slots → ((i : ℕ) → i < length S → f i < length T)
-      → (w : Works N S M T f) → Fits slots f (λ x. place_of M (w.0 x))
-  fits-works slots f linked inside w s h =
+  pub fits-works : {C : ℕ} (fronts : List (Front C)) (slots : List Slot) (f : ℕ → ℕ) → Linked N S M T fronts slots → ((i : ℕ) → i < length S → f i < length T)
+      → (w : Works N S M T f) → Fits fronts slots f (λ x. place_of M (w.0 x))
+  fits-works fronts slots f linked inside w s h =
       let l = linked s h in
       let k = (slot_at slots s).literal in
       l.1 (f k) (inside k l.0) w.0 (w.1 k l.0)
 
   -- what is left to begin with
-  pub spared : {C : ℕ} (slots : List (Slot C)) (before after : List (BitSet 4)) → Linked N S M T slots → Open N S M T before (length S)
-      → Pruned slots (length S) (length T) before after → Spared N S M T after
-  spared slots before after linked wide pruned f inside w =
-      pruned.keeps f (λ x. place_of M (w.0 x)) (fits-works slots f linked inside w) (λ i h. (inside i h, wide i h (f i) (inside i h) w.0 (w.1 i h)))
+  pub spared : {C : ℕ} (fronts : List (Front C)) (slots : List Slot) (before after : List (BitSet 4)) → Linked N S M T fronts slots → Open N S M T before (length S)
+      → Pruned fronts slots (length S) (length T) before after → Spared N S M T after
+  spared fronts slots before after linked wide pruned f inside w =
+      pruned.keeps f (λ x. place_of M (w.0 x)) (fits-works fronts slots f linked inside w) (λ i h. (inside i h, wide i h (f i) (inside i h) w.0 (w.1 i h)))
 
   -- the literal i takes the target j, and what is struck out by that is not wanted
-  pub tried : {C : ℕ} (slots : List (Slot C)) (sets last : List (BitSet 4)) (i j : ℕ) → Linked N S M T slots → Taken slots (length S) (length T) sets i j last
+  pub tried : {C : ℕ} (fronts : List (Front C)) (slots : List Slot) (sets last : List (BitSet 4)) (i j : ℕ) → Linked N S M T fronts slots → Taken fronts slots (length S) (length T) sets i j last
       → (h : Hopeful N S M T sets) → h.0 i ≡ j → Hopeful N S M T last
-  tried slots sets last i j linked t h e =
+  tried fronts slots sets last i j linked t h e =
       let next = t.mid in
       let f = h.0 in
       let θ = h.2.0 in
@@ -61,7 +62,7 @@ module _ (N : List Node) (S : List ℕ) (M : List Node) (T : List ℕ) where
             (λ s. ap (λ (ws : List ℕ). bit_at ws (f k)) (t.others k s) ∙ a.1)
             (cases_eq k i),
       ) in
-      let fits = fits-works slots f linked (λ k inside. (h.1 k inside).0) h.2 in
+      let fits = fits-works fronts slots f linked (λ k inside. (h.1 k inside).0) h.2 in
       (f, t.pruned.keeps f (λ x. place_of M (θ x)) fits narrow, h.2)
 
   -- a choice that was found

@@ -1,5 +1,5 @@
 -- A walk along one literal and a target of a clause beside it.
-use Rattle.std.proofs.Common.{◌≡◌, ℕ, ◌+◌, ◌<◌, List, length, get_or, Some, None, Option, ◌⊎◌, inl, inr, refl, sym, ap, ◌∙◌, subst, ⊎_elim}
+use Rattle.std.proofs.Common.{◌≡◌, ℕ, ◌+◌, ◌<◌, List, length, get_or, Some, None, Option, refl, sym, ap, ◌∙◌, subst, ⊎_elim}
 use Rattle.std.proofs.lemmas.Bool.{cases_lt}
 use Rattle.std.proofs.lemmas.List.{get_or_past}
 use Rattle.term.specs.Coding.{word_at, Next}
@@ -35,11 +35,6 @@ module _ (u : WordAt) (v : View) (j : ℕ) (h : j < length v.starts.now) where
 
   pub reached-first : (o : Option ℕ) → o ≡ Some t → Reached a i i b t o
   reached-first o e = subst (Reached a i i b t) (sym e) (abreast-first u target)
-
-  -- a target from which the place is taken away
-  pub reached-ruled : (p : ℕ) (o r : Option ℕ) → Reached a i p b t o → (r ≡ o) ⊎ ((r ≡ None) × ((θ : ℕ → Word) → Turns a i b t θ → ⊥)) → Reached a i p b t r
-  reached-ruled p o r g (inl same) = subst (Reached a i p b t) (sym same) g
-  reached-ruled p o r g (inr never) = subst (Reached a i p b t) (sym never.0) never.1
 
   pub reached-last : (p : ℕ) (o : Option ℕ) → Reached a i p b t o → (θ : ℕ → Word) → Turns a i b t θ → (q : ℕ) × (o ≡ Some q)
   reached-last p (Some q) g θ w = (q, refl)

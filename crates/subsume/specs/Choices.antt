@@ -2,7 +2,9 @@
 use Rattle.std.specs.Prelude.{◌≡◌, ℕ, suc, ◌+◌, ◌*◌, ◌<◌, ◌≤◌, List, [], ◌∷◌, length, replicate, Some, None, Option, slice_index, slice_index_or, unwrap_or, ◌≢◌, ◌⊎◌}
 use Rattle.std.proofs.Common.{lit≤}
 use Rattle.std.proofs.lemmas.List.{length-replicate}
+use Rattle.term.specs.declared.node.Node.TheVariants.{Variable}
 use Rattle.subsume.specs.declared.bits.BitSet.{BitSet}
+use Rattle.subsume.specs.declared.front.Front.{Front}
 use Rattle.subsume.specs.declared.slot.Slot.{Slot}
 use Rattle.subsume.specs.Bits.{bit_at, First}
 
@@ -30,28 +32,46 @@ Among sets m n f = (i : ℕ) → i < m → (f i < n) × (left sets i (f i) ≡ 1
 abbrev pub Fewer : (before after : List (BitSet 4)) (m n : ℕ) → Type 0
 Fewer before after m n = (i j : ℕ) → i < m → j < n → left after i j ≡ 1 → left before i j ≡ 1
 
-abbrev pub no_slot : (N : ℕ) → Slot N
-no_slot N = record { literal = 0; variable = 0; before = None; labels = replicate N 0; sized = length-replicate {A = ℕ} N 0 }
+abbrev pub no_front : (N : ℕ) → Front N
+no_front N = record {
+  parent = 0;
+  node = Variable 0;
+  met = none;
+  at = replicate N 0;
+  labels = replicate N 0;
+  placed = length-replicate {A = ℕ} N 0;
+  sized = length-replicate {A = ℕ} N 0;
+}
 
-abbrev pub slot_at : {N : ℕ} → List (Slot N) → ℕ → Slot N
-slot_at {N} slots s = slice_index_or slots s (no_slot N)
+abbrev pub front_at : {N : ℕ} → List (Front N) → ℕ → Front N
+front_at {N} fronts r = slice_index_or fronts r (no_front N)
+
+abbrev pub no_slot : Slot
+no_slot = record { literal = 0; variable = 0; before = None; front = 0 }
+
+abbrev pub slot_at : List Slot → ℕ → Slot
+slot_at slots s = slice_index_or slots s no_slot
 
 -- an answer is one of the slots, and P holds of it
-abbrev pub Standing : {N : ℕ} → List (Slot N) → (P : Slot N → Type 0) → Option (Slot N) → Type 0
+abbrev pub Standing : List Slot → (P : Slot → Type 0) → Option Slot → Type 0
 Standing slots P (Some slot) = (s : ℕ) × (s < length slots) × (slot_at slots s ≡ slot) × P slot
 Standing slots P None = Unit {0}
 
+-- the labels of a slot's front
+abbrev pub labels_of : {N : ℕ} → List (Front N) → Slot → List ℕ
+labels_of fronts slot = (front_at fronts slot.front).labels
+
 -- the label that the target j gives the variable of slot s
-abbrev pub entry : {N : ℕ} → List (Slot N) → (s j : ℕ) → ℕ
-entry slots s j = slice_index (slot_at slots s).labels j
+abbrev pub entry : {N : ℕ} → List (Front N) → List Slot → (s j : ℕ) → ℕ
+entry fronts slots s j = slice_index (labels_of fronts (slot_at slots s)) j
 
 -- a choice for each literal and a label for each variable agree with the table of labels
-abbrev pub Fits : {N : ℕ} → List (Slot N) → (f v : ℕ → ℕ) → Type 0
-Fits slots f v = (s : ℕ) → s < length slots → entry slots s (f (slot_at slots s).literal) ≡ v (slot_at slots s).variable
+abbrev pub Fits : {N : ℕ} → List (Front N) → List Slot → (f v : ℕ → ℕ) → Type 0
+Fits fronts slots f v = (s : ℕ) → s < length slots → entry fronts slots s (f (slot_at slots s).literal) ≡ v (slot_at slots s).variable
 
 -- no choice that agrees with the table loses a candidate, and nothing comes back
-pub record Pruned {N : ℕ} (slots : List (Slot N)) (m n : ℕ) (before after : List (BitSet 4)) : Type 0 where
-  pub keeps : (f v : ℕ → ℕ) → Fits slots f v → Among before m n f → Among after m n f
+pub record Pruned {N : ℕ} (fronts : List (Front N)) (slots : List Slot) (m n : ℕ) (before after : List (BitSet 4)) : Type 0 where
+  pub keeps : (f v : ℕ → ℕ) → Fits fronts slots f v → Among before m n f → Among after m n f
   pub fewer : Fewer before after m n
 
 -- the label is marked, or it is beyond those that can be
@@ -64,8 +84,8 @@ pub record Given (words labels : List ℕ) (j : ℕ) (marks : List ℕ) : Type 0
   pub only : (l : ℕ) → bit_at marks l ≡ 1 → (k : ℕ) × (k < j) × (bit_at words k ≡ 1) × (slice_index labels k ≡ l)
 
 -- the label that a choice gives the variable x is marked, where it agrees with the table
-abbrev pub Shared : {N : ℕ} → List (Slot N) → (m n : ℕ) → List (BitSet 4) → (x : ℕ) → (marks : List ℕ) → Type 0
-Shared slots m n sets x marks = (f v : ℕ → ℕ) → Fits slots f v → Among sets m n f → Shows marks (v x)
+abbrev pub Shared : {N : ℕ} → List (Front N) → List Slot → (m n : ℕ) → List (BitSet 4) → (x : ℕ) → (marks : List ℕ) → Type 0
+Shared fronts slots m n sets x marks = (f v : ℕ → ℕ) → Fits fronts slots f v → Among sets m n f → Shows marks (v x)
 
 -- of the first j targets, just such were struck out as have no marked label
 pub record Sifted (before after : List ℕ) (labels : List ℕ) (j : ℕ) (marks : List ℕ) : Type 0 where
@@ -85,11 +105,11 @@ Settled (Some j) words n = (j < n) × (j < 256) × ((k : ℕ) → k < 256 → bi
 Settled None words n = Unit {0}
 
 -- literal i takes the target j, and then candidates are struck out
-pub record Taken {N : ℕ} (slots : List (Slot N)) (m n : ℕ) (before : List (BitSet 4)) (i j : ℕ) (after : List (BitSet 4)) : Type 0 where
+pub record Taken {N : ℕ} (fronts : List (Front N)) (slots : List Slot) (m n : ℕ) (before : List (BitSet 4)) (i j : ℕ) (after : List (BitSet 4)) : Type 0 where
   pub mid : List (BitSet 4)
   pub others : (k : ℕ) → (k ≢ i) → row mid k ≡ row before k
   pub narrowed : Narrowed (row before i) (row mid i) j
-  pub pruned : Pruned slots m n mid after
+  pub pruned : Pruned fronts slots m n mid after
 
 -- the choice for literal i, or none, where it is still to be made; and the same, or 0
 abbrev pub pick : List (Option ℕ) → (i : ℕ) → Option ℕ

@@ -1,14 +1,16 @@
 -- Choices that some substitution makes, by nodes and where literals begin.
-use Rattle.std.specs.Prelude.{◌≡◌, ℕ, ◌<◌, ◌⊎◌, List, length, Some, None, Option, slice_index, slice_index_or}
-use Rattle.term.specs.Coding.{word_at}
+use Rattle.std.specs.Prelude.{◌≡◌, ℕ, suc, ◌+◌, ◌<◌, List, length, slice_index, slice_index_or}
 use Rattle.term.specs.Matched.{Turns}
 use Rattle.term.specs.Words.{Word}
 use Rattle.term.specs.declared.node.Node.{Node}
+use Rattle.term.specs.declared.node.Node.TheVariants.{Variable}
 use Rattle.subsume.specs.declared.bits.BitSet.{BitSet}
+use Rattle.subsume.specs.declared.front.Front.{Front}
 use Rattle.subsume.specs.declared.slot.Slot.{Slot}
 use Rattle.subsume.specs.Bits.{bit_at}
-use Rattle.subsume.specs.Choices.{row, Among, slot_at}
-use Rattle.subsume.specs.Meeting.{place_of}
+use Rattle.subsume.specs.Choices.{row, Among, front_at, slot_at, labels_of}
+use Rattle.subsume.specs.Fronts.{stands, HasNodes, Leads}
+use Rattle.subsume.specs.Meeting.{place_of, Reached}
 
 module _ (N : List Node) (S : List ℕ) (M : List Node) (T : List ℕ) where
   -- the substitution turns literal i of the one into literal j of the other
@@ -23,26 +25,24 @@ module _ (N : List Node) (S : List ℕ) (M : List Node) (T : List ℕ) where
   abbrev pub Named : (i x : ℕ) → List ℕ → Type 0
   Named i x labels = (j : ℕ) → j < length T → (θ : ℕ → Word) → TurnsAt θ i j → slice_index labels j ≡ place_of M (θ x)
 
-  -- the same for each slot of the table
-  abbrev pub Linked : {C : ℕ} → List (Slot C) → Type 0
-  Linked slots =
+  -- the same for each slot of the table, by the labels of its front
+  abbrev pub Linked : {C : ℕ} → List (Front C) → List Slot → Type 0
+  Linked fronts slots =
       (s : ℕ) → s < length slots
-      → ((slot_at slots s).literal < length S) × Named (slot_at slots s).literal (slot_at slots s).variable (slot_at slots s).labels
+      → ((slot_at slots s).literal < length S)
+      × Named (slot_at slots s).literal (slot_at slots s).variable (labels_of fronts (slot_at slots s))
+      × ((slot_at slots s).front < length fronts)
 
-  -- a place for each target: where the word stands that it gives the variable x of literal i; or none, where the literal
-  -- is not turned into it
-  abbrev pub Gives : (i x : ℕ) → List (Option ℕ) → Type 0
-  Gives i x at =
-      (j : ℕ) → j < length T
-      → ((q : ℕ) → slice_index_or at j None ≡ Some q → (q < length M) × ((θ : ℕ → Word) → TurnsAt θ i j → θ x ≡ word_at M q))
-      × (slice_index_or at j None ≡ None → (θ : ℕ → Word) → TurnsAt θ i j → ⊥)
+  -- the first k nodes of literal i lead to front r
+  abbrev pub LeadsAt : {C : ℕ} → List (Front C) → (i k r : ℕ) → Type 0
+  LeadsAt fronts i k r = (i < length S) × HasNodes N (slice_index S i) k × Leads fronts N (slice_index S i) k r
 
-  -- places are taken away only from targets into which literal i is not turned
-  abbrev pub Ruled : (i : ℕ) → (before after : List (Option ℕ)) → Type 0
-  Ruled i before after =
-      (j : ℕ) → j < length T
-      → (slice_index_or after j None ≡ slice_index_or before j None)
-      ⊎ ((slice_index_or after j None ≡ None) × ((θ : ℕ → Word) → TurnsAt θ i j → ⊥))
+  -- front 0 is there; a front is where each literal stands whose nodes lead to it; and its labels are what the targets give
+  -- the variable, where one led to it
+  pub record Fronted {C : ℕ} (fronts : List (Front C)) : Type 0 where
+    pub some : 0 < length fronts
+    pub reached : (r i k : ℕ) → r < length fronts → LeadsAt fronts i k r → (j : ℕ) → j < length T → Reached N (slice_index S i) (slice_index S i + k) M (slice_index T j) (stands (front_at fronts r) j)
+    pub named : (r i k x : ℕ) → LeadsAt fronts i (suc k) r → slice_index_or N (slice_index S i + k) (Variable 0) ≡ Variable x → Named i x (front_at fronts r).labels
 
   -- every target that literal i can be turned into is in the set
   abbrev pub OpenAt : (i : ℕ) → List ℕ → Type 0

@@ -7,6 +7,7 @@ ghost use Rattle.subsume.specs.Steps.{NoneFrom, FirstFrom, Begun};
 ghost use Rattle.subsume.specs.FirstChoices.{Chooses, FirstChoice};
 
 use super::check::check;
+use super::front::FRONTS;
 use super::places::Targets;
 use super::slot::Slots;
 use super::state::State;
@@ -126,7 +127,7 @@ impl View<'_> {
         ensures { MatchOption result (Covers (literals_at self.entry.nodes.now self.entry.starts.now) (literals_at other.entry.nodes.now other.entry.starts.now) → ⊥) (λ choice. FirstChoice (literals_at self.entry.nodes.now self.entry.starts.now) (literals_at other.entry.nodes.now other.entry.starts.now) (elems choice)) }
     {
         let targets = Targets::<V>::new(other);
-        let mut slots = Slots::<N, K>::new();
+        let mut slots = Slots::<N, K, FRONTS>::new();
         let table = Table::<N, W>::link(self, &targets, &mut slots);
         let (state, choice) = table.begin();
         table.first_from::<V>(state, choice)

@@ -3,6 +3,7 @@ ghost use Rattle.std.specs.Prelude.{◌≤◌, length, Decides};
 ghost use Rattle.term.specs.Matched.{Below};
 ghost use Rattle.clauses.specs.Clauses.{Covers, literals_at};
 
+use super::front::FRONTS;
 use super::places::Targets;
 use super::slot::Slots;
 use super::table::Table;
@@ -39,7 +40,7 @@ impl View<'_> {
         ensures { Decides result (Covers (literals_at self.entry.nodes.now self.entry.starts.now) (literals_at other.entry.nodes.now other.entry.starts.now)) }
     {
         let targets = Targets::<V>::new(other);
-        let mut slots = Slots::<N, K>::new();
+        let mut slots = Slots::<N, K, FRONTS>::new();
         let table = Table::<N, W>::link(self, &targets, &mut slots);
         table.solvable::<V>(table.start())
     }

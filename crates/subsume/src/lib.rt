@@ -5,6 +5,7 @@ mod bits;
 mod check;
 mod choice;
 mod covering;
+mod front;
 mod link;
 mod lookout;
 mod meeting;

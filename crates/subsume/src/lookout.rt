@@ -27,16 +27,16 @@ fn is_within(one: &BitSet<4>, other: &BitSet<4>) -> bool
 
 impl<const N: usize, const W: usize> Table<'_, N, W> {
     // The label that the target `j` gives the variable of a slot.
-    fn label(&self, slot: &Slot<N>, j: usize) -> usize
+    fn label(&self, slot: &Slot, j: usize) -> usize
         requires slot { Contains self.now.slots.now slot.now }
         requires target { j < length self.now.targets.starts.now }
         ensures { (θ : ℕ → Word) → TurnsAt self.now.literals.nodes.now self.now.literals.starts.now self.now.targets.nodes.now self.now.targets.starts.now θ slot.now.literal j → result ≡ place_of self.now.targets.nodes.now (θ slot.now.variable) }
     {
-        slot.labels[j] as usize
+        self.fronts[slot.front as usize].labels[j] as usize
     }
 
     // Whether a target of one word of a set gives the variable of a slot this label.
-    fn gives(&self, slot: &Slot<N>, label: usize, w: usize, word: u64) -> bool
+    fn gives(&self, slot: &Slot, label: usize, w: usize, word: u64) -> bool
         requires slot { Contains self.now.slots.now slot.now }
         requires word { w < 4 }
         ensures { result ≡ false → (k : ℕ) → bit word k ≡ 1 → 64 * w + k < length self.now.targets.starts.now → Differs self.now.literals.nodes.now self.now.literals.starts.now self.now.targets.nodes.now self.now.targets.starts.now slot.now.literal slot.now.variable (64 * w + k) label }
@@ -55,7 +55,7 @@ impl<const N: usize, const W: usize> Table<'_, N, W> {
 
     // Whether the literal of a slot has support: a candidate that is not gone, and gives the slot's variable the label of the
     // variable itself.
-    fn supported(&self, slot: &Slot<N>, gone: &BitSet<4>) -> bool
+    fn supported(&self, slot: &Slot, gone: &BitSet<4>) -> bool
         requires slot { Contains self.now.slots.now slot.now }
         requires same { self.now.literals ≡ self.now.targets }
         ensures { result ≡ false → (kept : List ℕ) → Moves kept gone.now.words self.now.targets.nodes.now self.now.targets.starts.now slot.now.variable }

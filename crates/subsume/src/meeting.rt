@@ -1,96 +1,172 @@
-// A walk along one literal and along each target beside it.
-ghost use Rattle.std.specs.Prelude.{◌≡◌, ℕ, ◌<◌, ◌≤◌, length, slice_index, slice_index_or, Some, None, ◌≢◌};
+// A walk along one literal and along each target beside it, from front to front.
+ghost use Rattle.std.specs.Prelude.{◌≡◌, ℕ, ◌<◌, ◌≤◌, min, length, slice_index, Some, ◌≢◌};
+ghost use Rattle.std.specs.Int.{bit_at as bit};
+ghost use Rattle.term.specs.Matched.{Turns};
+ghost use Rattle.term.specs.Words.{Word};
 ghost use Rattle.subsume.specs.Bits.{bit_at};
-ghost use Rattle.subsume.specs.Meeting.{Ends, Stepped, Advanced};
+ghost use Rattle.subsume.specs.Fronts.{shape, stands, Labelled, Beyond};
+ghost use Rattle.subsume.specs.Meeting.{Stepped, Advanced, Reached};
 
 use super::bits::BitSet;
-use super::view::View;
-use term::{Node, fellows};
+use super::front::Front;
+use super::places::Targets;
+use term::{Node, WordAt, fellows};
 
-// Where the walk begins: in each target at its start.
-pub fn begin<const N: usize>(targets: View<'_>) -> [Option<usize>; N]
-    requires { length targets.starts.now ≤ N }
-    ensures begun { (j : ℕ) → j < length targets.entry.starts.now → slice_index_or result j None ≡ Some (slice_index targets.entry.starts.now j) }
-    ensures rest { (j : ℕ) → length targets.entry.starts.now ≤ j → slice_index_or result j None ≡ None }
-    ensures size { length result ≡ N }
+// A node with all variables the same.
+pub fn shape(node: Node) -> Node
+    ensures { result ≡ shape node }
 {
-    let mut at = [None; N];
-    for (j, place) in at[..targets.len()].iter_mut().enumerate() {
-        *place = Some(targets.starts[j]);
-    }
-    at
-}
-
-// One node of the literal on, in each target that has not clashed with it.
-pub fn advance(at: &mut [Option<usize>], node: Node, targets: View<'_>, ends: &[u16])
-    requires ends { Ends targets.nodes.now ends.now }
-    requires inside { (j q : ℕ) → slice_index_or at.old j None ≡ Some q → q < length targets.nodes.now }
-    ensures { (j : ℕ) → Advanced node targets.entry.nodes.now (slice_index_or at.old j None) (slice_index_or at.new j None) }
-{
-    for place in at {
-        if let Some(q) = *place {
-            *place = beside(node, targets, q, ends);
-        }
+    match node {
+        Node::Variable(_) => Node::Variable(0),
+        Node::Applied(symbol, places) => Node::Applied(symbol, places),
     }
 }
 
 // One node on: what meets a variable is a whole word, and what meets a symbol is the same symbol.
-fn beside(node: Node, targets: View<'_>, q: usize, ends: &[u16]) -> Option<usize>
-    requires ends { Ends targets.nodes.now ends.now }
-    requires inside { q < length targets.nodes.now }
-    ensures { Stepped node targets.entry.nodes.now q result }
+fn beside<const P: usize>(node: Node, targets: &Targets<'_, P>, q: u16) -> Option<u16>
+    requires { q < length targets.now.view.nodes.now }
+    ensures { Stepped node targets.now.view.nodes.now q result }
 {
+    let end = targets.ends[q as usize];
     if let Node::Variable(_) = node {
-        return Some(ends[q] as usize);
+        return Some(end);
     }
-    if fellows(node, targets.nodes[q]) {
+    if fellows(node, targets.view.nodes[q as usize]) {
         Some(q + 1)
     } else {
         None
     }
 }
 
-// For each target, the first place of the word where the walk stands; 0, for which nothing asks, where there is none.
-pub fn labels<const N: usize>(at: &[Option<usize>], firsts: &[u16]) -> [u16; N]
-    requires size { length at.now ≤ N }
-    requires inside { (j q : ℕ) → slice_index_or at.now j None ≡ Some q → q < length firsts.now }
-    ensures labels { (j q : ℕ) → slice_index_or at.now j None ≡ Some q → slice_index result j ≡ slice_index firsts.now q }
-    ensures rest { (j : ℕ) → slice_index_or at.now j None ≡ None → slice_index result j ≡ 0 }
-    ensures size { length result ≡ N }
-{
-    let mut row = [0; N];
-    for (j, place) in at.iter().enumerate() {
-        if let Some(q) = *place {
-            row[j] = firsts[q];
+impl<const N: usize> Front<N> {
+    // Where a walk begins: in each target at its start.
+    pub fn begin<const P: usize>(targets: &Targets<'_, P>) -> Front<N>
+        requires { (length targets.now.view.starts.now ≤ N) × (N ≤ 256) }
+        ensures { (j : ℕ) → j < length targets.now.view.starts.now → stands result j ≡ Some (slice_index targets.now.view.starts.now j) }
+    {
+        let mut met = BitSet::<4>::new();
+        let mut at = [0; N];
+        for j in 0..targets.view.len() {
+            met.include(j);
+            at[j] = targets.view.starts[j] as u16;
+        }
+        Front {
+            parent: 0,
+            node: Node::Variable(0),
+            met,
+            at,
+            labels: [0; N],
         }
     }
-    row
+
+    // One node on from this front, which is front `r`.
+    pub fn next<const P: usize>(&self, r: usize, node: Node, targets: &Targets<'_, P>) -> Front<N>
+        requires few { (length targets.now.view.starts.now ≤ N) × (N ≤ 256) }
+        requires inside { (j q : ℕ) → j < length targets.now.view.starts.now → stands self.now j ≡ Some q → q < length targets.now.view.nodes.now }
+        ensures parent { result.parent ≡ r }
+        ensures beyond { Beyond targets.now.view.nodes.now targets.now.view.starts.now self.now node result }
+    {
+        let mut met = BitSet::<4>::new();
+        let mut at = [0; N];
+        for j in 0..targets.view.len() {
+            if let Some(q) = self.place(node, j, targets) {
+                met.include(j);
+                at[j] = q;
+            }
+        }
+        Front {
+            parent: r,
+            node: shape(node),
+            met,
+            at,
+            labels: self.labels(node, targets),
+        }
+    }
+
+    // Where the walk stands in the target `j`, if it has not ended there.
+    fn stand(&self, j: usize) -> Option<u16>
+        requires { (j < N) × (N ≤ 256) }
+        ensures { result ≡ stands self.now j }
+    {
+        if self.met.test(j) {
+            Some(self.at[j])
+        } else {
+            None
+        }
+    }
+
+    // Where it stands in the target `j` after the node.
+    fn place<const P: usize>(&self, node: Node, j: usize, targets: &Targets<'_, P>) -> Option<u16>
+        requires target { (j < N) × (N ≤ 256) }
+        requires inside { (q : ℕ) → stands self.now j ≡ Some q → q < length targets.now.view.nodes.now }
+        ensures { Advanced node targets.now.view.nodes.now (stands self.now j) result }
+    {
+        beside(node, targets, self.stand(j)?)
+    }
+
+    // For each target the label of the word that a variable meets here; of a symbol nothing is asked.
+    fn labels<const P: usize>(&self, node: Node, targets: &Targets<'_, P>) -> [u16; N]
+        requires few { (length targets.now.view.starts.now ≤ N) × (N ≤ 256) }
+        requires inside { (j q : ℕ) → j < length targets.now.view.starts.now → stands self.now j ≡ Some q → q < length targets.now.view.nodes.now }
+        ensures labelled { Labelled targets.now.view.nodes.now targets.now.view.starts.now self.now node result }
+        ensures size { length result ≡ N }
+    {
+        let mut labels = [0; N];
+        if let Node::Applied(_, _) = node {
+            return labels;
+        }
+        for j in 0..targets.view.len() {
+            if let Some(q) = self.stand(j) {
+                labels[j] = targets.firsts[q as usize];
+            }
+        }
+        labels
+    }
+
+    // Leaves the targets in which the walk has not ended.
+    pub fn meet(&self, left: &mut BitSet<4>)
+        ensures { (j : ℕ) → bit_at left.new.words j ≡ min (bit_at left.old.words j) (bit_at self.now.met.words j) }
+    {
+        for w in 0..4 {
+            left.words[w] = both(left.words[w], self.met.words[w]);
+        }
+    }
 }
 
-// Ends the walk in each target whose two labels differ.
-pub fn agree(at: &mut [Option<usize>], labels: &[u16], others: &[u16])
-    requires { (length at.old ≤ length labels.now) × (length at.old ≤ length others.now) }
-    ensures same { (j : ℕ) → slice_index labels.now j ≡ slice_index others.now j → slice_index_or at.new j None ≡ slice_index_or at.old j None }
-    ensures ended { (j : ℕ) → j < length at.old → slice_index labels.now j ≢ slice_index others.now j → slice_index_or at.new j None ≡ None }
+// The bits that both words have.
+fn both(word: u64, other: u64) -> u64
+    ensures { (k : ℕ) → bit result k ≡ min (bit word k) (bit other k) }
 {
-    for (j, place) in at.iter_mut().enumerate() {
+    word & other
+}
+
+// The front at which the rest of a literal ends, from the place `from` on, where there is no room to keep one for each node.
+pub fn finish<const N: usize, const P: usize>(
+    literal: WordAt<'_>,
+    from: usize,
+    front: &Front<N>,
+    targets: &Targets<'_, P>,
+) -> Front<N>
+    requires few { (length targets.now.view.starts.now ≤ N) × (N ≤ 256) }
+    requires reached { (j : ℕ) → j < length targets.now.view.starts.now → Reached literal.nodes.now literal.start from targets.now.view.nodes.now (slice_index targets.now.view.starts.now j) (stands front.now j) }
+    ensures { (j : ℕ) → j < length targets.now.view.starts.now → (θ : ℕ → Word) → Turns literal.entry.nodes.now literal.entry.start targets.now.view.nodes.now (slice_index targets.now.view.starts.now j) θ → (q : ℕ) × (stands result j ≡ Some q) }
+{
+    let mut last = *front;
+    for p in from..literal.end() {
+        last = last.next(0, literal.nodes[p], targets);
+    }
+    last
+}
+
+// Takes each of the first `n` targets out whose two labels differ.
+pub fn agree(left: &mut BitSet<4>, labels: &[u16], others: &[u16], n: usize)
+    requires { (n ≤ length labels.now) × (n ≤ length others.now) × (n ≤ 256) }
+    ensures same { (j : ℕ) → slice_index labels.now j ≡ slice_index others.now j → bit_at left.new.words j ≡ bit_at left.old.words j }
+    ensures ended { (j : ℕ) → j < n → slice_index labels.now j ≢ slice_index others.now j → bit_at left.new.words j ≡ 0 }
+{
+    for j in 0..n {
         if labels[j] != others[j] {
-            *place = None;
+            left.exclude(j);
         }
     }
-}
-
-// The targets that have not clashed.
-pub fn met(at: &[Option<usize>]) -> BitSet<4>
-    requires { length at.now ≤ 256 }
-    ensures here { (j q : ℕ) → slice_index_or at.now j None ≡ Some q → bit_at result.words j ≡ 1 }
-    ensures rest { (j : ℕ) → slice_index_or at.now j None ≡ None → bit_at result.words j ≡ 0 }
-{
-    let mut left = BitSet::<4>::new();
-    for (j, place) in at.iter().enumerate() {
-        if place.is_some() {
-            left.include(j);
-        }
-    }
-    left
 }

@@ -17,6 +17,7 @@ pub struct Targets<'a, const P: usize> {
     pub view: View<'a>,
     pub ends: Places<P>,
     pub firsts: Places<P>,
+    ghost small: { length view.nodes.now ≤ 65535 },
     ghost ended: { Ends view.nodes.now ends } by { Ends-prop view.nodes.now ends },
     ghost named: { Firsts view.nodes.now firsts },
 }

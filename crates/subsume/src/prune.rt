@@ -87,7 +87,7 @@ fn sift_word<const W: usize>(word: u64, labels: &[u16], marks: &BitSet<W>) -> u6
 
 impl<const N: usize, const W: usize> Table<'_, N, W> {
     // The slot at a place of the table, if it is one of the variable `x`.
-    pub(super) fn slot(&self, at: Option<u16>, x: usize) -> Option<&Slot<N>>
+    pub(super) fn slot(&self, at: Option<u16>, x: usize) -> Option<&Slot>
         ensures { Standing self.now.slots.now (λ slot. slot.variable ≡ x) (option_copied result) }
     {
         let slot = self.slots.get(at? as usize)?;
@@ -102,7 +102,7 @@ impl<const N: usize, const W: usize> Table<'_, N, W> {
     // that there is nothing to strike out.
     fn shared(&self, x: usize, sets: &[BitSet<4>]) -> Option<BitSet<W>>
         requires { length self.now.literals.starts.now ≤ length sets.now }
-        ensures { IfSome result (λ marks. Shared self.now.slots.now (length self.now.literals.starts.now) (length self.now.targets.starts.now) sets.now x marks.words) }
+        ensures { IfSome result (λ marks. Shared self.now.fronts.now self.now.slots.now (length self.now.literals.starts.now) (length self.now.targets.starts.now) sets.now x marks.words) }
     {
         let n = self.targets.len();
         let mut marks = BitSet::<W>::full();
@@ -112,7 +112,8 @@ impl<const N: usize, const W: usize> Table<'_, N, W> {
             let Some(slot) = self.slot(at, x) else {
                 break;
             };
-            let own = given(&sets[slot.literal as usize], &slot.labels[..n]);
+            let labels = &self.fronts[slot.front as usize].labels[..n];
+            let own = given(&sets[slot.literal as usize], labels);
             marks.keep(&own);
             all.add(&own);
             at = slot.before;
@@ -127,8 +128,8 @@ impl<const N: usize, const W: usize> Table<'_, N, W> {
     // a candidate come into the queue; where a literal has lost its last, nothing more need be looked at.
     fn strike(&self, x: usize, marks: &BitSet<W>, sets: &mut [BitSet<4>], queue: &mut BitSet<W>)
         requires rows { length self.now.literals.starts.now ≤ length sets.old }
-        requires shared { Shared self.now.slots.now (length self.now.literals.starts.now) (length self.now.targets.starts.now) sets.old x marks.now.words }
-        ensures { Pruned self.now.slots.now (length self.now.literals.starts.now) (length self.now.targets.starts.now) sets.old sets.new }
+        requires shared { Shared self.now.fronts.now self.now.slots.now (length self.now.literals.starts.now) (length self.now.targets.starts.now) sets.old x marks.now.words }
+        ensures { Pruned self.now.fronts.now self.now.slots.now (length self.now.literals.starts.now) (length self.now.targets.starts.now) sets.old sets.new }
     {
         let n = self.targets.len();
         let mut at = self.last.get(x).copied().flatten();
@@ -136,7 +137,8 @@ impl<const N: usize, const W: usize> Table<'_, N, W> {
             let Some(slot) = self.slot(at, x) else {
                 break;
             };
-            if sift(&mut sets[slot.literal as usize], &slot.labels[..n], marks) {
+            let labels = &self.fronts[slot.front as usize].labels[..n];
+            if sift(&mut sets[slot.literal as usize], labels, marks) {
                 if sets[slot.literal as usize].is_empty() {
                     *queue = BitSet::<W>::new();
                     return;
@@ -165,7 +167,7 @@ impl<const N: usize, const W: usize> Table<'_, N, W> {
     // Strikes out what literals with the variable `x` disagree on; where it stands in one alone, nothing.
     fn revise(&self, x: usize, sets: &mut [BitSet<4>], queue: &mut BitSet<W>)
         requires { length self.now.literals.starts.now ≤ length sets.old }
-        ensures { Pruned self.now.slots.now (length self.now.literals.starts.now) (length self.now.targets.starts.now) sets.old sets.new }
+        ensures { Pruned self.now.fronts.now self.now.slots.now (length self.now.literals.starts.now) (length self.now.targets.starts.now) sets.old sets.new }
     {
         let Some(last) = self.slot(self.last.get(x).copied().flatten(), x) else {
             return;
@@ -184,7 +186,7 @@ impl<const N: usize, const W: usize> Table<'_, N, W> {
     // Strikes out candidates until no two literals disagree, beginning at the variables in the queue.
     pub(super) fn prune(&self, sets: &mut [BitSet<4>], mut queue: BitSet<W>)
         requires { length self.now.literals.starts.now ≤ length sets.old }
-        ensures { Pruned self.now.slots.now (length self.now.literals.starts.now) (length self.now.targets.starts.now) sets.old sets.new }
+        ensures { Pruned self.now.fronts.now self.now.slots.now (length self.now.literals.starts.now) (length self.now.targets.starts.now) sets.old sets.new }
     {
         // Round and round: so what is struck out at one variable is felt at the next in the same round.
         let mut next = 0;

@@ -199,7 +199,7 @@ impl<const N: usize, const W: usize> Table<'_, N, W> {
     pub(super) fn take(&self, state: &State<N>, i: usize, j: usize) -> State<N>
         requires literal { i < length self.now.literals.starts.now }
         requires target { j < length self.now.targets.starts.now }
-        ensures taken { Taken self.now.slots.now (length self.now.literals.starts.now) (length self.now.targets.starts.now) state.now.sets i j result.sets }
+        ensures taken { Taken self.now.fronts.now self.now.slots.now (length self.now.literals.starts.now) (length self.now.targets.starts.now) state.now.sets i j result.sets }
         ensures picked { Picked state.now.sets (length self.now.literals.starts.now) (length self.now.targets.starts.now) state.now.picks → Picked result.sets (length self.now.literals.starts.now) (length self.now.targets.starts.now) result.picks }
         ensures fewer { pick state.now.picks i ≡ None → undone result.picks < undone state.now.picks }
         ensures clear { (gone : List ℕ) → left state.now.sets i j ≡ 1 → Clear gone state.now.sets (length self.now.literals.starts.now) (length self.now.targets.starts.now) state.now.picks → Clear gone result.sets (length self.now.literals.starts.now) (length self.now.targets.starts.now) result.picks }

@@ -1,62 +1,66 @@
 // A place of a variable in a literal, with what the targets give it.
-ghost use Rattle.std.specs.Prelude.{◌≡◌, ⊤, [], length};
+ghost use Rattle.std.specs.Prelude.{◌≡◌, [], length};
 ghost use Rattle.bounded.specs.Elems.{elems};
 
+use super::bits::BitSet;
+use super::front::Front;
 use bounded::Bounded;
-use std::alloc::AllocError;
+use term::Node;
 
-// A variable of a literal, and for each target the label of the word that it gives the variable.
-#[derive(Copy)]
-pub struct Slot<const N: usize> {
+// A variable of a literal, and the front that has for each target the label of the word that it gives the variable.
+#[derive(Clone, Copy)]
+pub struct Slot {
     pub literal: u16,
     pub variable: u16,
     // The slot before this one with the same variable.
     pub before: Option<u16>,
-    pub labels: [u16; N],
-    ghost sized: { length labels ≡ N },
+    pub front: u16,
 }
 
-// By hand, since `Clone` cannot be derived for a generic struct with a ghost field.
-impl<const N: usize> Clone for Slot<N> {
-    ghost is_clone = { λ x y. y ≡ x };
-
-    ghost is_infallible = { λ _. ⊤ };
-
-    fn clone(&self) -> Result<Slot<N>, AllocError> {
-        Ok(*self)
-    }
-}
-
-// At most K slots, and where to find them.
+// At most K slots and F fronts, and where to find them. The first front is where every walk begins.
 #[derive(Drop)]
-pub struct Slots<const N: usize, const K: usize> {
-    pub rows: Bounded<Slot<N>, K>,
+pub struct Slots<const N: usize, const K: usize, const F: usize> {
+    pub fronts: Bounded<Front<N>, F>,
+    pub rows: Bounded<Slot, K>,
     // For each literal its first slot, and for each variable its last. Pruning is quicker for them, and no proof rests on them.
     pub first: [usize; N],
     pub last: [Option<u16>; K],
+    // For each front one that follows it, and another that follows the same. No proof rests on them either.
+    pub child: [Option<u16>; F],
+    pub sibling: [Option<u16>; F],
 }
 
-impl<const N: usize, const K: usize> Slots<N, K> {
+impl<const N: usize, const K: usize, const F: usize> Slots<N, K, F> {
     // No slots.
-    pub fn new() -> Slots<N, K>
-        ensures { elems result.rows ≡ [] }
+    pub fn new() -> Slots<N, K, F>
+        ensures { (elems result.rows ≡ []) × (elems result.fronts ≡ []) }
     {
         Slots {
+            fronts: Bounded::new(Front {
+                parent: 0,
+                node: Node::Variable(0),
+                met: BitSet::new(),
+                at: [0; N],
+                labels: [0; N],
+            }),
             rows: Bounded::new(Slot {
                 literal: 0,
                 variable: 0,
                 before: None,
-                labels: [0; N],
+                front: 0,
             }),
             first: [0; N],
             last: [None; K],
+            child: [None; F],
+            sibling: [None; F],
         }
     }
 
-    // Takes all slots out.
+    // Takes all slots and fronts out.
     pub fn clear(&mut self)
-        ensures { elems self.new.rows ≡ [] }
+        ensures { (elems self.new.rows ≡ []) × (elems self.new.fronts ≡ []) }
     {
+        self.fronts.truncate(0);
         self.rows.truncate(0);
         let none = [None; K];
         self.last = none;

@@ -3,6 +3,7 @@ ghost use Rattle.std.specs.Prelude.{◌≡◌, ◌≤◌, length};
 ghost use Rattle.subsume.specs.Solving.{Linked, Open};
 
 use super::bits::BitSet;
+use super::front::Front;
 use super::slot::Slot;
 use super::view::View;
 
@@ -15,7 +16,8 @@ pub type Candidates<const N: usize> = [BitSet<4>; N];
 pub struct Table<'a, const N: usize, const W: usize> {
     pub literals: View<'a>,
     pub targets: View<'a>,
-    pub slots: &'a [Slot<N>],
+    pub fronts: &'a [Front<N>],
+    pub slots: &'a [Slot],
     // For each literal its first slot, and for each variable its last. Pruning is quicker for them, and no proof rests on them.
     pub first: &'a [usize],
     pub last: &'a [Option<u16>],
@@ -25,5 +27,5 @@ pub struct Table<'a, const N: usize, const W: usize> {
     ghost few: { (length literals.starts.now ≤ N) × (length targets.starts.now ≤ N) × (N ≤ 256) × (W ≤ 1024) },
     ghost rows: { length candidates ≡ N },
     ghost opened: { Open literals.nodes.now literals.starts.now targets.nodes.now targets.starts.now candidates (length literals.starts.now) },
-    ghost linked: { Linked literals.nodes.now literals.starts.now targets.nodes.now targets.starts.now slots.now },
+    ghost linked: { Linked literals.nodes.now literals.starts.now targets.nodes.now targets.starts.now fronts.now slots.now },
 }

@@ -1,13 +1,18 @@
-use Rattle.std.proofs.Common.{ℕ, ◌<◌, None, length, get_or}
+use Rattle.std.proofs.Common.{◌≡◌, ℕ, ◌+◌, ◌<◌, length, get_or}
 use Rattle.bounded.specs.Elems.{elems}
-use Rattle.subsume.specs.Meeting.{Reached}
-use Rattle.subsume.specs.Solving.{Linked}
+use Rattle.subsume.specs.Fronts.{Leads}
+use Rattle.subsume.specs.Solving.{Linked, Fronted, OpenAt}
 use Rattle.subsume.proofs.slot.Slots.add_literal.Given as goal
 
 abbrev pub invariant-loop-p : goal.invariant-loop-p
 invariant-loop-p g l =
+    let a = l.literals in
     let t = l.targets.view in
+    let start = get_or a.starts.now l.i 0 in
     record {
-      linked : Linked l.literals.nodes.now l.literals.starts.now t.nodes.now t.starts.now (elems l.self.rows);
-      front : (j : ℕ) → j < length t.starts.now → Reached l.literal.nodes.now l.literal.start l.p t.nodes.now (get_or t.starts.now j 0) (get_or l.at j None);
+      fronted : Fronted a.nodes.now a.starts.now t.nodes.now t.starts.now (elems l.self.fronts);
+      linked : Linked a.nodes.now a.starts.now t.nodes.now t.starts.now (elems l.self.fronts) (elems l.self.rows);
+      inside : l.r < length (elems l.self.fronts);
+      leads : (k : ℕ) × (start + k ≡ l.p) × Leads (elems l.self.fronts) a.nodes.now start k l.r;
+      wide : OpenAt a.nodes.now a.starts.now t.nodes.now t.starts.now l.i l.left.words;
     }

@@ -31,7 +31,7 @@ loop-k-preserved g t c =
     (λ h turn.
     let e : h.0 i ≡ j = one-turn N S M T first n (h.0 i) j c.loop-k.k (omega (arith, (h.1 i inside).0, c.len-n.ensures)) own.0 turn own.1 in
     elim c.if-test.branch [
-      | then-test+in_default-search w ↦ w.search.ensures.none w.in_default-search.is (tried N S M T z.slots.now made.sets w.take.result.sets i j z.linked w.take.ensures.taken h e)
+      | then-test+in_default-search w ↦ w.search.ensures.none w.in_default-search.is (tried N S M T z.fronts.now z.slots.now made.sets w.take.result.sets i j z.linked w.take.ensures.taken h e)
       | else-test w ↦ gone N S M T made.sets i j inside (λ x. both_ways c.test.result w.if-test.false (c.test.ensures.1 (sym (ap (λ ws. bit_at ws j) row) ∙ x))) h e
     ])
 

@@ -12,4 +12,4 @@ pub returns-clause-spared : goal.returns-clause-spared
 returns-clause-spared g c =
     let t = c.args.self.now in
     held-spared t.literals.nodes.now t.literals.starts.now t.targets.nodes.now t.targets.starts.now c.args.j c.args.state.now.sets c.loop-i.state.sets c.prune.new.sets c.loop-i.i c.loop-i.invariant.held
-    t.slots.now t.linked c.prune.ensures c.requires.target
+    t.fronts.now t.slots.now t.linked c.prune.ensures c.requires.target

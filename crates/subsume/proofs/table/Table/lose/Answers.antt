@@ -19,7 +19,7 @@ returns-then-test-clause-spares g c =
     let s = c.in-Some.ensures in
     let kept = c.args.kept.now.words in
     let first = c.args.gone.now.words in
-    kept-none N S M T (ap (λ v. v.nodes.now) c.requires.same) (ap (λ v. v.starts.now) c.requires.same) slot (told N S M T t.slots.now slot t.linked (stands-in t.slots.now slot s.0 s.1 s.2))
+    kept-none N S M T (ap (λ v. v.nodes.now) c.requires.same) (ap (λ v. v.starts.now) c.requires.same) t.fronts.now slot (told N S M T t.fronts.now t.slots.now slot t.linked (stands-in t.slots.now slot s.0 s.1 s.2))
     kept first (subst (Moves kept first M T) (sym s.3) c.requires.moves) c.loop.gone.words (c.test.ensures.0 c.if-test.true)
 
 pub loop-preserved : goal.loop-preserved
@@ -41,7 +41,7 @@ loop-preserved g c =
           subst P (sym w.gone-is) (
             λ j b. ⊎_elim (λ (e : j ≡ slot.literal). ap (bit_at after.words) e ∙ w.include.ensures.here) (λ n. w.include.ensures.others j n ∙ inv.more j b) (cases_eq j slot.literal),
             λ j b. ⊎_elim (λ (e : j ≡ slot.literal). absurd (both_ways _ c.if-test.false (c.test.ensures.1 (ap (bit_at kept) (sym e) ∙ b)))) (λ n. w.include.ensures.others j n ∙ inv.apart j b) (cases_eq j slot.literal),
-            lost-more N S M T (ap (λ v. v.nodes.now) c.requires.same) (ap (λ v. v.starts.now) c.requires.same) slot (told N S M T t.slots.now slot t.linked (stands-in t.slots.now slot s.0 s.1 s.2))
+            lost-more N S M T (ap (λ v. v.nodes.now) c.requires.same) (ap (λ v. v.starts.now) c.requires.same) t.fronts.now slot (told N S M T t.fronts.now t.slots.now slot t.linked (stands-in t.slots.now slot s.0 s.1 s.2))
                 kept first (subst (Moves kept first M T) (sym s.3) c.requires.moves) c.loop.gone.words after.words inv.spares w.include.ensures.others,
           )
       | else-not-test w ↦ subst P (sym w.gone-is) (inv.more, inv.apart, inv.spares)

@@ -20,7 +20,7 @@ returns-then-test g c =
     let taken = rw c.len-i.ensures.value at c.take.ensures.taken in
     λ e.
     none_searched a.nodes.now a.starts.now b.nodes.now b.starts.now (front ++ j ∷ []) next.sets next.picks
-    (begun-more a.nodes.now a.starts.now b.nodes.now b.starts.now t.slots.now front _ state.sets next.sets state.picks next.picks j t.linked taken begun (c.take.ensures.picked begun.picked) c.requires.literal c.requires.target refl)
+    (begun-more a.nodes.now a.starts.now b.nodes.now b.starts.now t.fronts.now t.slots.now front _ state.sets next.sets state.picks next.picks j t.linked taken begun (c.take.ensures.picked begun.picked) c.requires.literal c.requires.target refl)
     (c.solvable.ensures.none e)
 
 pub returns-else-test : goal.returns-else-test

@@ -8,7 +8,7 @@ returns-then-x g c =
     let t = c.args.self.now in
     elim c.match-shared.branch [
       | in-Some-shared w ↦ rw w.sets-is w.strike.ensures
-      | in_default-shared w ↦ rw w.sets-is (pruned-none t.slots.now (length t.literals.starts.now) (length t.targets.starts.now) c.args.sets.now)
+      | in_default-shared w ↦ rw w.sets-is (pruned-none t.fronts.now t.slots.now (length t.literals.starts.now) (length t.targets.starts.now) c.args.sets.now)
     ]
 
 pub returns-else-x : goal.returns-else-x
@@ -16,5 +16,5 @@ returns-else-x g c =
     let t = c.args.self.now in
     elim c.match-shared.branch [
       | in-Some-shared w ↦ rw w.sets-is w.strike.ensures
-      | in_default-shared w ↦ rw w.sets-is (pruned-none t.slots.now (length t.literals.starts.now) (length t.targets.starts.now) c.args.sets.now)
+      | in_default-shared w ↦ rw w.sets-is (pruned-none t.fronts.now t.slots.now (length t.literals.starts.now) (length t.targets.starts.now) c.args.sets.now)
     ]

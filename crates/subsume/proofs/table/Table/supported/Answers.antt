@@ -15,7 +15,7 @@ loop-w-preserved g c =
     let slot = c.args.slot.now in
     let w = c.loop-w.w in
     let gone = c.args.gone.now.words in
-    let own = (told N S M T t.slots.now slot t.linked c.requires.slot).0 in
+    let own = (told N S M T t.fronts.now t.slots.now slot t.linked c.requires.slot).0 in
     let same = row-read t.candidates slot.literal c.index-candidates-i.result (omega (arith, own, t.few.0, t.few.2, t.rows)) in
     let fits : get_or gone w 0 < 2 ^ 64 = omega arith in
     others-more N S M T (row t.candidates slot.literal) gone slot.literal slot.variable c.label-label.result w fits (rw same (c.gives.ensures c.if-gives.false)) c.loop-w.invariant
@@ -30,6 +30,6 @@ returns g c =
     let slot = c.args.slot.now in
     let nodes = ap (λ v. v.nodes.now) c.requires.same in
     let starts = ap (λ v. v.starts.now) c.requires.same in
-    let own = (told N S M T t.slots.now slot t.linked c.requires.slot).0 in
+    let own = (told N S M T t.fronts.now t.slots.now slot t.linked c.requires.slot).0 in
     λ _ kept.
     unsupported N S M T nodes starts (row t.candidates slot.literal) kept c.args.gone.now.words slot.literal slot.variable c.label-label.result c.loop-w.w (omega (arith, own, ap length starts)) (omega (arith, t.few)) (t.opened slot.literal own) (c.label-label.ensures var (turns-itself N S M T nodes starts slot.literal)) c.loop-w.invariant

@@ -1,5 +1,0 @@
-use Rattle.std.proofs.Common.{◌≡◌, ℕ, ◌<◌, Some, None, length, get_or}
-use Rattle.subsume.proofs.meeting.begin.Given as goal
-
-abbrev pub invariant-loop-j : goal.invariant-loop-j
-invariant-loop-j g l = ((k : ℕ) → k < l.j → get_or l.place-items k None ≡ Some (get_or l.targets.starts.now k 0)) × (length l.place-items ≡ length l.targets.starts.now)
