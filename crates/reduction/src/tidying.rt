@@ -14,6 +14,9 @@ ghost use Rattle.reduction.specs.Tidyings.{Inside, Standing, Turned, Passed, Tak
 use bounded::Bounded;
 use subsume::{BitSet, Order, Slots, State, Table, Targets, View};
 
+// How many fronts help the search.
+const FRONTS: usize = 192;
+
 // What has been decided: where the literals begin that are kept, at which places of all they stand, and which of all are gone.
 #[derive(Clone, Copy)]
 pub(super) struct Decided {
@@ -210,19 +213,20 @@ pub fn tidied(clause: View<'_>) -> Option<Bounded<usize, 16>>
 {
     // What is small is tidied in less room, and so in less time.
     if clause.len() <= 16 && clause.nodes.len() <= 256 {
-        tidied_in::<16, 128, 64, 256, 4>(clause)
+        tidied_in::<16, 128, 256, 4>(clause)
     } else if clause.nodes.len() <= 1024 {
-        tidied_in::<256, 1024, 192, 1024, 16>(clause)
+        tidied_in::<256, 1024, 1024, 16>(clause)
     } else {
-        tidied_in::<256, 1024, 192, 4096, 64>(clause)
+        tidied_in::<256, 1024, 4096, 64>(clause)
     }
 }
 
-// The same with room for N literals, K slots, F fronts, V variables and nodes, and W words of 64 bits for sets of words and of variables.
-fn tidied_in<const N: usize, const K: usize, const F: usize, const V: usize, const W: usize>(
+// The same with room for N literals, K slots, V variables and nodes, and W words of 64 bits for sets of words and of variables.
+fn tidied_in<const N: usize, const K: usize, const V: usize, const W: usize>(
     clause: View<'_>,
 ) -> Option<Bounded<usize, 16>>
-    requires few { (length clause.starts.now ≤ N) × (N ≤ 256) × (K ≤ 65536) × (W ≤ 1024) }
+    requires few { (length clause.starts.now ≤ N) × (N ≤ 256) }
+    requires room { (K ≤ 65536) × (W ≤ 1024) }
     requires small { (length clause.nodes.now ≤ V) × (V ≤ 65535) }
     requires variables { Below V clause.nodes.now }
     ensures { Leaves clause.entry.nodes.now (literals_at clause.entry.nodes.now clause.entry.starts.now) result }
@@ -233,9 +237,9 @@ fn tidied_in<const N: usize, const K: usize, const F: usize, const V: usize, con
         gone: BitSet::new(),
     };
     let words = Targets::<V>::new(clause);
-    let mut own = Slots::<N, K, F>::new();
+    let mut own = Slots::<N, K, FRONTS>::new();
     let whole = Table::<N, W>::link(clause, &words, &mut own);
-    let mut slots = Slots::<N, K, F>::new();
+    let mut slots = Slots::<N, K, FRONTS>::new();
     let (mut image, mut mapped) = all_of::<N>(clause);
     let mut at = 0;
     loop {
