@@ -130,26 +130,6 @@ pub(super) enum Outcome<const N: usize> {
     },
 }
 
-// Where a search begins: pruned, and the literals at the places in `held` are left where they are.
-fn start<const N: usize, const W: usize>(
-    table: &Table<'_, N, W>,
-    held: &BitSet<4>,
-    gone: &BitSet<4>,
-) -> State<N>
-    ensures picked { Picked result.sets (length table.now.literals.starts.now) (length table.now.targets.starts.now) result.picks }
-    ensures none { (k : ℕ) → pick result.picks k ≡ None }
-    ensures spared { SparedOutside table.now.literals.nodes.now table.now.literals.starts.now table.now.targets.nodes.now table.now.targets.starts.now held.now.words gone.now.words result.sets }
-{
-    let mut state = table.start();
-    table.strike_out(&mut state, gone);
-    for j in 0..table.targets.len() {
-        if held.test(j) {
-            table.hold(&mut state, j);
-        }
-    }
-    state
-}
-
 // Gives each literal of a clause from `at` on its turn, until one is dropped by choices that are new. The clause is the targets
 // of the table, and its literals are what it was last turned into, at the places in `mapped`. `whole` links the clause with
 // itself.
@@ -168,7 +148,7 @@ fn pass<const N: usize, const V: usize, const W: usize>(
     ensures inside { Inside (length table.now.targets.nodes.now) decided.new }
     ensures passed { Passed table.now.targets.nodes.now (literals_at table.now.targets.nodes.now table.now.targets.starts.now) (literals_at table.now.literals.nodes.now table.now.literals.starts.now) at result decided.new }
 {
-    let mut state = start(table, &decided.held, &decided.gone);
+    let mut state = table.start_outside(&decided.held, &decided.gone);
     let mut order = Order::new();
     for i in at..table.targets.len() {
         match decided.turn::<N, V, W>(whole, table, &mut state, &mut order, mapped, i) {
@@ -214,6 +194,8 @@ pub fn tidied(clause: View<'_>) -> Option<Bounded<usize, 16>>
     // What is small is tidied in less room, and so in less time.
     if clause.len() <= 16 && clause.nodes.len() <= 256 {
         tidied_in::<16, 128, 256, 4>(clause)
+    } else if clause.len() <= 64 && clause.nodes.len() <= 512 {
+        tidied_in::<64, 256, 512, 8>(clause)
     } else if clause.nodes.len() <= 1024 {
         tidied_in::<256, 1024, 1024, 16>(clause)
     } else {

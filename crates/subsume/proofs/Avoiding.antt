@@ -11,7 +11,7 @@ use Rattle.subsume.specs.declared.bits.BitSet.{BitSet}
 use Rattle.subsume.specs.declared.front.Front.{Front}
 use Rattle.subsume.specs.declared.slot.Slot.{Slot}
 use Rattle.subsume.specs.Bits.{bit_at, Within}
-use Rattle.subsume.specs.Choices.{left, row, pick, picked, Among, Fewer, Narrowed, Removed, Pruned, Picked, Made, Clear, Avoids}
+use Rattle.subsume.specs.Choices.{left, row, pick, picked, Fewer, Narrowed, Removed, Pruned, Picked, Made, Clear, Avoids, Holding}
 use Rattle.subsume.specs.Meeting.{place_of}
 use Rattle.subsume.specs.Solving.{TurnsAt, Works, Linked, Hopeful, SparedOutside}
 use Rattle.subsume.specs.FirstChoices.{Outside, ChoosesOutside}
@@ -81,21 +81,12 @@ module _ (gone : List ℕ) (before sets : List (BitSet 4)) (i : ℕ) where
         long = length-set sets i r ∙ c.long;
       }
 
--- of the first i literals, those that begin at `start` are left the target j alone
-pub record Holding (m n : ℕ) (begins : ℕ → ℕ) (start j : ℕ) (before after : List (BitSet 4)) (i : ℕ) : Type 0 where
-  pub keeps : (f : ℕ → ℕ) → Among before m n f → ((k : ℕ) → k < m → begins k ≡ start → f k ≡ j) → Among after m n f
-  pub fewer : Fewer before after m n
-  pub long : length after ≡ length before
-
 module _ (m n : ℕ) (begins : ℕ → ℕ) (start j : ℕ) where
-  pub holding-none : (sets : List (BitSet 4)) (i : ℕ) → Holding m n begins start j sets sets i
-  holding-none sets i = record { keeps = λ f a h. a; fewer = λ k l h g e. e; long = refl }
+  pub holding-none : (sets : List (BitSet 4)) → Holding m n begins start j sets sets
+  holding-none sets = record { keeps = λ f a h. a; fewer = λ k l h g e. e; long = refl }
 
-  pub holding-same : (before after : List (BitSet 4)) (i : ℕ) → Holding m n begins start j before after i → Holding m n begins start j before after (i + 1)
-  holding-same before after i h = record { keeps = h.keeps; fewer = h.fewer; long = h.long }
-
-  pub holding-more : (before sets : List (BitSet 4)) (i : ℕ) (r : BitSet 4) → i < m → i < length sets → begins i ≡ start → Holding m n begins start j before sets i
-      → Narrowed (row sets i) r.words j → Holding m n begins start j before (set sets i r) (i + 1)
+  pub holding-more : (before sets : List (BitSet 4)) (i : ℕ) (r : BitSet 4) → i < m → i < length sets → begins i ≡ start → Holding m n begins start j before sets
+      → Narrowed (row sets i) r.words j → Holding m n begins start j before (set sets i r)
   holding-more before sets i r own inside here h w =
       let same = row-set_same sets i r inside in
       record {
@@ -120,16 +111,21 @@ module _ (m n : ℕ) (begins : ℕ → ℕ) (start j : ℕ) where
         long = length-set sets i r ∙ h.long;
       }
 
+-- pruning loses none of the choices that are left
+pub pruned-spared : (N : List Node) (S : List ℕ) (M : List Node) (T : List ℕ) {C : ℕ} (fronts : List (Front C)) (slots : List Slot) (before after : List (BitSet 4))
+    → Linked N S M T fronts slots → Pruned fronts slots (length S) (length T) before after → (kept gone : List ℕ) → SparedOutside N S M T kept gone before → SparedOutside N S M T kept gone after
+pruned-spared N S M T fronts slots before after linked p kept gone spared f within w holds =
+    p.keeps f (λ x. place_of M (w.0 x)) (fits-works N S M T fronts slots f linked (λ k lt. (within k lt).0) w) (spared f within w holds)
+
 -- and what is pruned after that
-module _ (N : List Node) (S : List ℕ) (M : List Node) (T : List ℕ) (j : ℕ) (before mid after : List (BitSet 4)) (i : ℕ) (h : Holding (length S) (length T) (λ (k : ℕ). get_or S k 0) (get_or T j 0) j before mid i) where
+module _ (N : List Node) (S : List ℕ) (M : List Node) (T : List ℕ) (j : ℕ) (before mid after : List (BitSet 4)) (h : Holding (length S) (length T) (λ (k : ℕ). get_or S k 0) (get_or T j 0) j before mid) where
   pub held-picked : (picks : List (Option ℕ)) → Fewer mid after (length S) (length T) → Picked before (length S) (length T) picks → Picked after (length S) (length T) picks
   held-picked picks f p = picked-fewer (length S) (length T) before after picks p (λ k l a b e. h.fewer k l a b (f k l a b e))
 
   pub held-spared : {C : ℕ} (fronts : List (Front C)) (slots : List Slot) → Linked N S M T fronts slots → Pruned fronts slots (length S) (length T) mid after → j < length T
       → (kept gone : List ℕ) → bit_at kept j ≡ 1 → SparedOutside N S M T kept gone before → SparedOutside N S M T kept gone after
-  held-spared fronts slots linked p inside kept gone own spared f within w holds =
-      p.keeps f (λ x. place_of M (w.0 x)) (fits-works N S M T fronts slots f linked (λ k lt. (within k lt).0) w)
-      (h.keeps f (spared f within w holds) (λ k lt e. holds k j lt inside own e))
+  held-spared fronts slots linked p inside kept gone own spared =
+      pruned-spared N S M T fronts slots mid after linked p kept gone (λ f within w holds. h.keeps f (spared f within w holds) (λ k lt e. holds k j lt inside own e))
 
 -- what is left then
 module _ (N : List Node) (S : List ℕ) (M : List Node) (T : List ℕ) (gone : List ℕ) (before mid after : List (BitSet 4)) (i : ℕ) (all : length S ≤ i) (c : Cut gone before mid i) where

@@ -165,3 +165,9 @@ Avoids gone m picks = (i : ℕ) → i < m → bit_at gone (picked picks i) ≡ 0
 pub record Removed (gone : List ℕ) (before after : List ℕ) : Type 0 where
   pub kept : (j : ℕ) → bit_at before j ≡ 1 → bit_at gone j ≡ 0 → bit_at after j ≡ 1
   pub fewer : (j : ℕ) → bit_at after j ≡ 1 → (bit_at before j ≡ 1) × (bit_at gone j ≡ 0)
+
+-- of m literals, those that begin at `start` lose all of n targets but j; no choice is lost that gives them this one
+pub record Holding (m n : ℕ) (begins : ℕ → ℕ) (start j : ℕ) (before after : List (BitSet 4)) : Type 0 where
+  pub keeps : (f : ℕ → ℕ) → Among before m n f → ((k : ℕ) → k < m → begins k ≡ start → f k ≡ j) → Among after m n f
+  pub fewer : Fewer before after m n
+  pub long : length after ≡ length before

@@ -1,8 +1,8 @@
 // Choices that take none of some targets: those that are gone; and literals that are held where they are.
-ghost use Rattle.std.specs.Prelude.{◌≡◌, ℕ, List, ◌-◌, ◌<◌, ◌≤◌, min, None, length, All, MatchOption, Decides, ◌≢◌};
+ghost use Rattle.std.specs.Prelude.{◌≡◌, ℕ, List, ◌-◌, ◌<◌, ◌≤◌, min, None, length, slice_index, All, MatchOption, Decides, ◌≢◌};
 ghost use Rattle.std.specs.Int.{bit_at as bit};
 ghost use Rattle.subsume.specs.Bits.{bit_at, Within};
-ghost use Rattle.subsume.specs.Choices.{Removed, Picked, Clear, pick, picked};
+ghost use Rattle.subsume.specs.Choices.{Removed, Picked, Clear, Holding, pick, picked};
 ghost use Rattle.clauses.specs.Clauses.{literals_at};
 ghost use Rattle.term.specs.Matched.{Below};
 ghost use Rattle.term.specs.Words.{Word, sub};
@@ -35,7 +35,46 @@ fn minus(word: u64, other: u64) -> u64
 }
 
 impl<const N: usize, const W: usize> Table<'_, N, W> {
-    // Leaves to the literal that begins where the target `j` does no other target.
+    // Where a search begins for choices that take none of the targets that are gone and leave the literals where they are that
+    // begin at the places in `kept`.
+    pub fn start_outside(&self, kept: &BitSet<4>, gone: &BitSet<4>) -> State<N>
+        ensures picked { Picked result.sets (length self.now.literals.starts.now) (length self.now.targets.starts.now) result.picks }
+        ensures none { (i : ℕ) → pick result.picks i ≡ None }
+        ensures spared { SparedOutside self.now.literals.nodes.now self.now.literals.starts.now self.now.targets.nodes.now self.now.targets.starts.now kept.now.words gone.now.words result.sets }
+    {
+        let mut sets = self.candidates;
+        let mut queue = BitSet::<W>::new();
+        for i in 0..self.literals.len() {
+            let _ = remove(&mut sets[i], gone);
+            self.enqueue(i, &mut queue);
+        }
+        for j in 0..self.targets.len() {
+            if kept.test(j) {
+                self.narrow_at(&mut sets, j, &mut queue);
+            }
+        }
+        self.prune(&mut sets, queue);
+        State {
+            sets,
+            picks: [None; N],
+        }
+    }
+
+    // Leaves to the literal that begins where the target `j` does no other target, and puts its variables into the queue.
+    fn narrow_at(&self, sets: &mut [BitSet<4>], j: usize, queue: &mut BitSet<W>)
+        requires target { j < length self.now.targets.starts.now }
+        requires rows { length self.now.literals.starts.now ≤ length sets.old }
+        ensures { Holding (length self.now.literals.starts.now) (length self.now.targets.starts.now) (λ i. slice_index self.now.literals.starts.now i) (slice_index self.now.targets.starts.now j) j sets.old sets.new }
+    {
+        for i in 0..self.literals.len() {
+            if self.literals.starts[i] == self.targets.starts[j] {
+                narrow(&mut sets[i], j);
+                self.enqueue(i, queue);
+            }
+        }
+    }
+
+    // The same, and prunes.
     pub fn hold(&self, state: &mut State<N>, j: usize)
         requires target { j < length self.now.targets.starts.now }
         requires picked { Picked state.old.sets (length self.now.literals.starts.now) (length self.now.targets.starts.now) state.old.picks }
@@ -44,12 +83,7 @@ impl<const N: usize, const W: usize> Table<'_, N, W> {
         ensures spared { (kept gone : List ℕ) → bit_at kept j ≡ 1 → SparedOutside self.now.literals.nodes.now self.now.literals.starts.now self.now.targets.nodes.now self.now.targets.starts.now kept gone state.old.sets → SparedOutside self.now.literals.nodes.now self.now.literals.starts.now self.now.targets.nodes.now self.now.targets.starts.now kept gone state.new.sets }
     {
         let mut queue = BitSet::<W>::new();
-        for i in 0..self.literals.len() {
-            if self.literals.starts[i] == self.targets.starts[j] {
-                narrow(&mut state.sets[i], j);
-                self.enqueue(i, &mut queue);
-            }
-        }
+        self.narrow_at(&mut state.sets, j, &mut queue);
         self.prune(&mut state.sets, queue);
     }
 

@@ -62,8 +62,11 @@ impl<const N: usize> Order<N> {
     fn rank(&self, sets: &[BitSet<4>], i: usize) -> (bool, u32) {
         let later = i >= 256 || !self.first.test(i);
         let targets = sets.get(i).map_or(0, |left| left.count());
-        let failures = self.failures.get(i).copied().unwrap_or(0);
-        (later, (targets % 4096 << 20) / failures.saturating_add(1))
+        let rank = targets % 4096 << 20;
+        match self.failures.get(i) {
+            Some(failures) if *failures > 0 => (later, rank / failures.saturating_add(1)),
+            _ => (later, rank),
+        }
     }
 
     // Notes which literals are left without a target.

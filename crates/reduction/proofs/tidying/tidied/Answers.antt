@@ -10,3 +10,6 @@ tidied_in-requires-then-clause-le1024-clause-variables c = let N = c.args.clause
 
 pub tidied_in-requires-else-clause-le1024-clause-variables : goal.tidied_in-requires-else-clause-le1024-clause-variables
 tidied_in-requires-else-clause-le1024-clause-variables c = let N = c.args.clause.nodes.now in below_more (length N) 4096 N c.requires.small c.requires.variables
+
+pub tidied_in-requires-then-clause-le512-clause-variables : goal.tidied_in-requires-then-clause-le512-clause-variables
+tidied_in-requires-then-clause-le512-clause-variables c = let N = c.args.clause.nodes.now in below_more (length N) 512 N c.if-clause-le512.true c.requires.variables
