@@ -39,6 +39,7 @@ pub fn families() -> Vec<Family> {
     family("witness: hidden instances, 2 predicates", many(3_000, || witness(random)));
     family("join: rings, all pairs of sizes 2 to 16", rings());
     family("join: random graphs of 4 to 16 literals", many(300, || Join(any_graph(random), any_graph(random))));
+    family("join: random pairs of 16 literals", many(400, || Join(sixteen_literals(random), sixteen_literals(random))));
     family("join: grids and complete graphs", shape_joins(random));
     family("join: hidden instances, 2 predicates", many(500, || hidden_join(random)));
     family("join: mixed instances, nested words", many(1_000, || mixed_join(random)));
@@ -153,6 +154,15 @@ fn graph(random: &mut Random, size: usize) -> Vec<u8> {
 fn any_graph(random: &mut Random) -> Vec<u8> {
     let size = random.between(4, 16);
     graph(random, size)
+}
+
+/// 16 literals of one predicate of two places, over constants or over variables.
+fn sixteen_literals(random: &mut Random) -> Vec<u8> {
+    let words = random.between(6, 16);
+    match random.chance(50) {
+        true => pack(&inputs::graph(random, 16, words)),
+        false => pack(&inputs::connected_rule(random, 16, words, 1)),
+    }
 }
 
 /// Two mounts in which the same rule is hidden.

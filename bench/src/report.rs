@@ -152,9 +152,10 @@ Tidying is asked as a session of one record, since the library has no call for i
 
 ## Not in the table
 
-The time of the library has no proved bound, and there are inputs on which it is out of all proportion. One came up in the comparison with `--seed 2`:
-a session of 273 bytes, four random graphs of 3, 7, 7 and 16 literals of one predicate (`bench/slow-session.hex`). Plain Rust answers it in 0.2
-milliseconds; the library had not answered after nine minutes, and was stopped. So `--seed 2` does not end in useful time, and that answer is not compared.
+Neither has a bound on its time, and there are inputs on which one is out of all proportion. Of 36,000 random pairs of 16 literals of one predicate of
+two places, over constants, over variables or over both, the longest join by the library took 40 milliseconds. `bench/hard-pair.hex` holds two records
+of constants: plain Rust refuses their join after 14 seconds, the library after 5 milliseconds, since its search prefers the literals that
+were often left without a target.
 
 ## Growth
 
