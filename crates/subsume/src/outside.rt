@@ -151,7 +151,9 @@ impl<const N: usize, const W: usize> Table<'_, N, W> {
     }
 
     // Puts the literals that share a variable with literal `k` into the queue, but those that are done.
-    fn enqueue_beside(&self, k: usize, done: &BitSet<4>, queue: &mut BitSet<4>) {
+    fn enqueue_beside(&self, k: usize, done: &BitSet<4>, queue: &mut BitSet<4>)
+        ensures { Within queue.old.words queue.new.words }
+    {
         let first = self.first.get(k).copied().unwrap_or(0);
         for slot in self.slots.iter().skip(first) {
             if slot.literal as usize != k {

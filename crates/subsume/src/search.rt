@@ -1,6 +1,7 @@
 // The search: takes the literal with the fewest candidates, tries each, prunes, and goes on.
-ghost use Rattle.std.specs.Prelude.{◌≡◌, ℕ, ◌*◌, ◌<◌, ◌≤◌, true, false, List, None, length, Decides, IfSome};
+ghost use Rattle.std.specs.Prelude.{◌≡◌, ℕ, ◌*◌, ◌<◌, ◌≤◌, true, false, List, None, length, replicate, Decides, IfSome};
 ghost use Rattle.term.specs.Matched.{Below};
+ghost use Rattle.subsume.specs.Bits.{bit_at};
 ghost use Rattle.subsume.specs.Choices.{left, Settled, Narrowed, Spent, Taken, Chosen, Uses, Turn, Picked, Made, Clear, Avoids, pick, picked, undone};
 ghost use Rattle.subsume.specs.Solving.{Works, Solved, Hopeful, Spared};
 
@@ -51,7 +52,10 @@ pub struct Order<const N: usize> {
 
 impl<const N: usize> Order<N> {
     // No literal comes before another.
-    pub fn new() -> Order<N> {
+    pub fn new() -> Order<N>
+        ensures first { (k : ℕ) → bit_at result.first.words k ≡ 0 }
+        ensures failures { result.failures ≡ replicate N 0 }
+    {
         Order {
             first: BitSet::new(),
             failures: [0; N],
@@ -59,7 +63,9 @@ impl<const N: usize> Order<N> {
     }
 
     // By what literal `i` comes before others: the least is the first.
-    fn rank(&self, sets: &[BitSet<4>], i: usize) -> (bool, u32) {
+    fn rank(&self, sets: &[BitSet<4>], i: usize) -> (bool, u32)
+        ensures { result.0 ≡ false → bit_at self.now.first.words i ≡ 1 }
+    {
         let later = i >= 256 || !self.first.test(i);
         let targets = sets.get(i).map_or(0, |left| left.count());
         let rank = targets % 4096 << 20;
@@ -70,7 +76,9 @@ impl<const N: usize> Order<N> {
     }
 
     // Notes which literals are left without a target.
-    fn note(&mut self, sets: &[BitSet<4>]) {
+    fn note(&mut self, sets: &[BitSet<4>])
+        ensures { self.new.first ≡ self.old.first }
+    {
         for (failures, left) in self.failures.iter_mut().zip(sets) {
             if left.is_empty() {
                 *failures = failures.saturating_add(1);
