@@ -17,3 +17,4 @@ mod FirstPlaces
 mod Retracting
 mod Roots
 mod Combining
+mod Columns

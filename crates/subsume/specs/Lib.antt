@@ -7,3 +7,4 @@ pub mod Steps
 pub mod FirstChoices
 pub mod Ending
 pub mod Retracting
+pub mod Columns

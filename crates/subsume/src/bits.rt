@@ -1,5 +1,6 @@
 // Sets of numbers, as bits in words of 64.
 ghost use Rattle.std.specs.Prelude.{◌≡◌, ℕ, ◌*◌, ◌<◌, ◌≤◌, ⊤, min, max, length, map, sum, count_ones, Decides, ◌≢◌};
+ghost use Rattle.std.specs.Int.{bit_at as bit};
 ghost use Rattle.subsume.specs.Bits.{bit_at, First, FirstFrom, Popped, PoppedFrom, Only, Parted};
 
 use std::alloc::AllocError;
@@ -66,6 +67,13 @@ impl<const W: usize> BitSet<W> {
         ensures others { (l : ℕ) → (l ≢ k) → bit_at self.new.words l ≡ bit_at self.old.words l }
     {
         self.words[k / 64] &= !(1u64 << (k % 64));
+    }
+
+    // Whether both have the same numbers.
+    pub(super) fn is_same(&self, other: &BitSet<W>) -> bool
+        ensures { Decides result (self.now.words ≡ other.now.words) }
+    {
+        self.words == other.words
     }
 
     // Keeps the numbers that another set has too.
@@ -169,4 +177,36 @@ pub(super) fn part(word: u64) -> (usize, u64)
 {
     let k = word.trailing_zeros() as usize;
     (k, word & (word - 1))
+}
+
+// The bits that both words have.
+pub(super) fn both(word: u64, other: u64) -> u64
+    ensures { (k : ℕ) → bit result k ≡ min (bit word k) (bit other k) }
+{
+    word & other
+}
+
+// The bits that either word has.
+pub(super) fn either(word: u64, other: u64) -> u64
+    ensures { (k : ℕ) → bit result k ≡ max (bit word k) (bit other k) }
+{
+    word | other
+}
+
+// A word with one bit more.
+pub(super) fn with(word: u64, k: usize) -> u64
+    requires { k < 64 }
+    ensures here { bit result k ≡ 1 }
+    ensures others { (l : ℕ) → (l ≢ k) → bit result l ≡ bit word l }
+{
+    word | 1 << k
+}
+
+// A word without one bit.
+pub(super) fn without(word: u64, k: usize) -> u64
+    requires { k < 64 }
+    ensures here { bit result k ≡ 0 }
+    ensures others { (l : ℕ) → l < 64 → (l ≢ k) → bit result l ≡ bit word l }
+{
+    word & !(1 << k)
 }

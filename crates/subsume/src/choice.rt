@@ -101,7 +101,7 @@ impl View<'_> {
         self,
         other: View<'_>,
     ) -> Option<Bounded<u16, N>>
-        requires few { (length self.starts.now ≤ N) × (length other.starts.now ≤ N) × (N ≤ 256) × (K ≤ 65536) × (W ≤ 1024) × (length other.nodes.now ≤ V) }
+        requires few { (length self.starts.now ≤ N) × (length other.starts.now ≤ N) × (N ≤ 256) × (K ≤ 65536) × (W ≤ 1024) × (0 < W) × (length other.nodes.now ≤ V) }
         requires variables { Below V self.nodes.now × (V ≤ 65535) }
         ensures { MatchOption result (Covers (literals_at self.entry.nodes.now self.entry.starts.now) (literals_at other.entry.nodes.now other.entry.starts.now) → ⊥) (λ choice. FirstChoice (literals_at self.entry.nodes.now self.entry.starts.now) (literals_at other.entry.nodes.now other.entry.starts.now) (elems choice)) }
     {
@@ -122,7 +122,7 @@ impl View<'_> {
         self,
         other: View<'_>,
     ) -> Option<Bounded<u16, N>>
-        requires few { (length self.starts.now ≤ N) × (length other.starts.now ≤ N) × (N ≤ 256) × (K ≤ 65536) × (W ≤ 1024) × (length other.nodes.now ≤ V) }
+        requires few { (length self.starts.now ≤ N) × (length other.starts.now ≤ N) × (N ≤ 256) × (K ≤ 65536) × (W ≤ 1024) × (0 < W) × (length other.nodes.now ≤ V) }
         requires variables { Below V self.nodes.now × (V ≤ 65535) }
         ensures { MatchOption result (Covers (literals_at self.entry.nodes.now self.entry.starts.now) (literals_at other.entry.nodes.now other.entry.starts.now) → ⊥) (λ choice. FirstChoice (literals_at self.entry.nodes.now self.entry.starts.now) (literals_at other.entry.nodes.now other.entry.starts.now) (elems choice)) }
     {

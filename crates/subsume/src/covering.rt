@@ -1,5 +1,5 @@
 // Whether one clause covers another (subsumes it).
-ghost use Rattle.std.specs.Prelude.{◌≤◌, length, Decides};
+ghost use Rattle.std.specs.Prelude.{◌<◌, ◌≤◌, length, Decides};
 ghost use Rattle.term.specs.Matched.{Below};
 ghost use Rattle.clauses.specs.Clauses.{Covers, literals_at};
 
@@ -17,7 +17,7 @@ impl View<'_> {
         self,
         other: View<'_>,
     ) -> bool
-        requires few { (length self.starts.now ≤ N) × (length other.starts.now ≤ N) × (N ≤ 256) × (K ≤ 65536) × (W ≤ 1024) × (length other.nodes.now ≤ V) }
+        requires few { (length self.starts.now ≤ N) × (length other.starts.now ≤ N) × (N ≤ 256) × (K ≤ 65536) × (W ≤ 1024) × (0 < W) × (length other.nodes.now ≤ V) }
         requires variables { Below V self.nodes.now × (V ≤ 65535) }
         ensures { Decides result (Covers (literals_at self.entry.nodes.now self.entry.starts.now) (literals_at other.entry.nodes.now other.entry.starts.now)) }
     {
@@ -35,7 +35,7 @@ impl View<'_> {
         self,
         other: View<'_>,
     ) -> bool
-        requires few { (length self.starts.now ≤ N) × (length other.starts.now ≤ N) × (N ≤ 256) × (K ≤ 65536) × (W ≤ 1024) × (length other.nodes.now ≤ V) }
+        requires few { (length self.starts.now ≤ N) × (length other.starts.now ≤ N) × (N ≤ 256) × (K ≤ 65536) × (W ≤ 1024) × (0 < W) × (length other.nodes.now ≤ V) }
         requires variables { Below V self.nodes.now × (V ≤ 65535) }
         ensures { Decides result (Covers (literals_at self.entry.nodes.now self.entry.starts.now) (literals_at other.entry.nodes.now other.entry.starts.now)) }
     {

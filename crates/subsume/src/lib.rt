@@ -4,6 +4,7 @@
 mod bits;
 mod check;
 mod choice;
+mod column;
 mod covering;
 mod front;
 mod link;
@@ -15,6 +16,7 @@ mod prune;
 mod search;
 mod slot;
 mod state;
+mod support;
 mod table;
 mod view;
 

@@ -1,12 +1,14 @@
 // The table of labels, and the candidates to begin with: a walk along each literal and all targets beside it.
-ghost use Rattle.std.specs.Prelude.{◌≡◌, ℕ, ◌<◌, ◌≤◌, ◌++◌, [], ◌∷◌, length, List, IfSome, MatchOption, Some, slice_index};
+ghost use Rattle.std.specs.Prelude.{◌≡◌, ℕ, ◌<◌, ◌≤◌, ◌++◌, [], ◌∷◌, length, List, IfSome, MatchOption, Some, slice_index, take};
 ghost use Rattle.bounded.specs.Elems.{elems};
 ghost use Rattle.term.specs.declared.node.Node.{Node};
 ghost use Rattle.subsume.specs.Choices.{Standing, front_at};
+ghost use Rattle.subsume.specs.Columns.{Supported, Columned};
 ghost use Rattle.subsume.specs.Fronts.{Follows, Grown, stands};
 ghost use Rattle.subsume.specs.Solving.{OpenAt, Named, Linked, Fronted};
 
 use super::bits::BitSet;
+use super::column::{COLUMNS, Column};
 use super::front::Front;
 use super::meeting::{agree, finish, shape};
 use super::places::Targets;
@@ -22,7 +24,7 @@ impl<'a, const N: usize, const W: usize> Table<'a, N, W> {
         targets: &Targets<'a, P>,
         slots: &'a mut Slots<N, K, F>,
     ) -> Table<'a, N, W>
-        requires { (length literals.starts.now ≤ N) × (length targets.now.view.starts.now ≤ N) × (N ≤ 256) × (W ≤ 1024) × (0 < F) }
+        requires { (length literals.starts.now ≤ N) × (length targets.now.view.starts.now ≤ N) × (N ≤ 256) × (W ≤ 1024) × (0 < W) × (0 < F) }
         ensures { (result.literals ≡ literals.entry) × (result.targets ≡ targets.entry.now.view) }
     {
         slots.clear();
@@ -31,11 +33,13 @@ impl<'a, const N: usize, const W: usize> Table<'a, N, W> {
         for i in 0..literals.len() {
             candidates[i] = slots.add_literal(literals, targets, i);
         }
+        slots.tabulate(targets.view.len());
         Table {
             literals,
             targets: targets.view,
             fronts: slots.fronts.as_slice(),
             slots: slots.rows.as_slice(),
+            columns: slots.columns.as_slice(),
             first: &slots.first,
             last: &slots.last,
             candidates,
@@ -159,6 +163,32 @@ impl<const N: usize, const K: usize, const F: usize> Slots<N, K, F> {
         }
         self.fronts.as_slice()[r as usize].meet(&mut left);
         left
+    }
+
+    // The columns of the first fronts, of their labels for `n` targets.
+    fn tabulate(&mut self, n: usize)
+        requires { n ≤ N }
+        ensures same { (self.new.rows ≡ self.old.rows) × (self.new.fronts ≡ self.old.fronts) }
+        ensures columned { Columned (elems self.new.fronts) n (elems self.new.columns) }
+    {
+        self.columns.truncate(0);
+        for r in 0..COLUMNS {
+            let column = self.column_of(r, n);
+            let _ = self.columns.push(column);
+        }
+    }
+
+    // The column of front `r`; or none, where it is not one of a variable.
+    fn column_of(&self, r: usize, n: usize) -> Option<Column>
+        requires { n ≤ N }
+        ensures { r < length (elems self.now.fronts) → IfSome result (λ column. Supported (front_at (elems self.now.fronts) r).met.words (take n (front_at (elems self.now.fronts) r).labels) column) }
+    {
+        let fronts = self.fronts.as_slice();
+        let front = fronts.get(r)?;
+        if let Node::Applied(_, _) = front.node {
+            return None;
+        }
+        Column::of(&front.met, &front.labels[..n])
     }
 
     // The slots of literal `i` begin here.

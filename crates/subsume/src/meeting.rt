@@ -7,7 +7,7 @@ ghost use Rattle.subsume.specs.Bits.{bit_at};
 ghost use Rattle.subsume.specs.Fronts.{shape, stands, Labelled, Beyond};
 ghost use Rattle.subsume.specs.Meeting.{Stepped, Advanced, Reached};
 
-use super::bits::BitSet;
+use super::bits::{BitSet, both};
 use super::front::Front;
 use super::places::Targets;
 use term::{Node, WordAt, fellows};
@@ -131,13 +131,6 @@ impl<const N: usize> Front<N> {
             left.words[w] = both(left.words[w], self.met.words[w]);
         }
     }
-}
-
-// The bits that both words have.
-fn both(word: u64, other: u64) -> u64
-    ensures { (k : ℕ) → bit result k ≡ min (bit word k) (bit other k) }
-{
-    word & other
 }
 
 // The front at which the rest of a literal ends, from the place `from` on, where there is no room to keep one for each node.

@@ -1,10 +1,12 @@
 // Strikes out candidates that no choice of targets can take: those on which two literals that share a variable disagree.
-ghost use Rattle.std.specs.Prelude.{◌≡◌, ℕ, ◌*◌, ◌<◌, ◌≤◌, length, slice_index, option_copied, Decides, IfSome, ◌≢◌, ◌⊎◌};
+ghost use Rattle.std.specs.Prelude.{◌≡◌, ℕ, List, ◌*◌, ◌<◌, ◌≤◌, length, slice_index, take, option_copied, Decides, IfSome, ◌≢◌, ◌⊎◌};
 ghost use Rattle.std.specs.Int.{bit_at as bit};
 ghost use Rattle.subsume.specs.Bits.{bit_at};
-ghost use Rattle.subsume.specs.Choices.{Shows, Given, Shared, Standing, Sifted, Pruned};
+ghost use Rattle.subsume.specs.Columns.{Supported, SiftedWord};
+ghost use Rattle.subsume.specs.Choices.{Shows, Given, Shared, Standing, Sifted, Pruned, front_at, labels_of};
 
 use super::bits::{BitSet, part};
+use super::column::Column;
 use super::slot::Slot;
 use super::table::Table;
 
@@ -12,7 +14,7 @@ use super::table::Table;
 const ROUNDS: usize = 65536;
 
 // The labels of the targets that are left. A label beyond what a set can hold is left out.
-fn given<const W: usize>(left: &BitSet<4>, labels: &[u16]) -> BitSet<W>
+pub(super) fn given<const W: usize>(left: &BitSet<4>, labels: &[u16]) -> BitSet<W>
     requires { (length labels.now ≤ 256) × (W ≤ 1024) }
     ensures { Given left.now.words labels.now (length labels.now) result.words }
 {
@@ -47,8 +49,14 @@ fn mark_word<const W: usize>(word: u64, labels: &[u16], marks: &mut BitSet<W>)
 }
 
 // Strikes out the targets whose labels are not marked; says whether there were any.
-fn sift<const W: usize>(left: &mut BitSet<4>, labels: &[u16], marks: &BitSet<W>) -> bool
-    requires { length labels.now ≤ 256 }
+fn sift<const W: usize>(
+    left: &mut BitSet<4>,
+    labels: &[u16],
+    marks: &BitSet<W>,
+    column: Option<&Column>,
+) -> bool
+    requires few { (length labels.now ≤ 256) × (0 < W) }
+    requires column { IfSome (option_copied column) (λ column. (met : List ℕ) × Supported met labels.now column) }
     ensures sifted { Sifted left.old.words left.new.words labels.now (length labels.now) marks.now.words }
     ensures struck { Decides result (left.new.words ≢ left.old.words) }
 {
@@ -57,17 +65,31 @@ fn sift<const W: usize>(left: &mut BitSet<4>, labels: &[u16], marks: &BitSet<W>)
         if 64 * w >= labels.len() {
             break;
         }
-        left.words[w] = sift_word(left.words[w], &labels[64 * w..], marks);
+        left.words[w] = sift_part(left.words[w], &labels[64 * w..], marks, column);
     }
     left.words != before
 }
 
-// The targets of one word that are kept.
+// The targets of one word that are kept: at once where there is a column, and else one by one.
+fn sift_part<const W: usize>(
+    word: u64,
+    labels: &[u16],
+    marks: &BitSet<W>,
+    column: Option<&Column>,
+) -> u64
+    requires some { 0 < W }
+    requires column { IfSome (option_copied column) (λ column. (met : List ℕ) × Supported met labels.now column) }
+    ensures { SiftedWord labels.now word marks.now.words result }
+{
+    match column {
+        Some(column) => column.sift(word, marks),
+        None => sift_word(word, labels, marks),
+    }
+}
+
+// The same one by one.
 fn sift_word<const W: usize>(word: u64, labels: &[u16], marks: &BitSet<W>) -> u64
-    ensures kept { (k : ℕ) → k < length labels.now → bit word k ≡ 1 → Shows marks.now.words (slice_index labels.now k) → bit result k ≡ 1 }
-    ensures fewer { (k : ℕ) → bit result k ≡ 1 → bit word k ≡ 1 }
-    ensures marked { (k : ℕ) → k < length labels.now → bit result k ≡ 1 → Shows marks.now.words (slice_index labels.now k) }
-    ensures outside { (k : ℕ) → length labels.now ≤ k → bit result k ≡ bit word k }
+    ensures { SiftedWord labels.now word marks.now.words result }
 {
     let mut kept = word;
     let mut rest = word;
@@ -98,13 +120,40 @@ impl<const N: usize, const W: usize> Table<'_, N, W> {
         }
     }
 
+    // The column of the labels of a slot, if it has one.
+    fn column(&self, slot: &Slot) -> Option<&Column>
+        requires { slot.now.front < length self.now.fronts.now }
+        ensures { IfSome (option_copied result) (λ column. Supported (front_at self.now.fronts.now slot.now.front).met.words (take (length self.now.targets.starts.now) (labels_of self.now.fronts.now slot.now)) column) }
+    {
+        let r = slot.front as usize;
+        if r < self.columns.len() {
+            self.columns[r].as_ref()
+        } else {
+            None
+        }
+    }
+
+    // The labels that the targets that are left give the variable of a slot: known, where none was struck out.
+    fn labels_left(&self, slot: &Slot, left: &BitSet<4>) -> BitSet<W>
+        requires { slot.now.front < length self.now.fronts.now }
+        ensures { Given left.now.words (labels_of self.now.fronts.now slot.now) (length self.now.targets.starts.now) result.words }
+    {
+        let n = self.targets.len();
+        let front = &self.fronts[slot.front as usize];
+        if left.is_same(&front.met) {
+            if let Some(column) = self.column(slot) {
+                return column.labels::<W>();
+            }
+        }
+        given(left, &front.labels[..n])
+    }
+
     // The labels that each literal with the variable `x` has a candidate for; or none, where they have all the same labels, so
     // that there is nothing to strike out.
     fn shared(&self, x: usize, sets: &[BitSet<4>]) -> Option<BitSet<W>>
         requires { length self.now.literals.starts.now ≤ length sets.now }
         ensures { IfSome result (λ marks. Shared self.now.fronts.now self.now.slots.now (length self.now.literals.starts.now) (length self.now.targets.starts.now) sets.now x marks.words) }
     {
-        let n = self.targets.len();
         let mut marks = BitSet::<W>::full();
         let mut all = BitSet::<W>::new();
         let mut at = self.last.get(x).copied().flatten();
@@ -112,8 +161,7 @@ impl<const N: usize, const W: usize> Table<'_, N, W> {
             let Some(slot) = self.slot(at, x) else {
                 break;
             };
-            let labels = &self.fronts[slot.front as usize].labels[..n];
-            let own = given(&sets[slot.literal as usize], labels);
+            let own = self.labels_left(slot, &sets[slot.literal as usize]);
             marks.keep(&own);
             all.add(&own);
             at = slot.before;
@@ -138,7 +186,8 @@ impl<const N: usize, const W: usize> Table<'_, N, W> {
                 break;
             };
             let labels = &self.fronts[slot.front as usize].labels[..n];
-            if sift(&mut sets[slot.literal as usize], labels, marks) {
+            let column = self.column(slot);
+            if sift(&mut sets[slot.literal as usize], labels, marks, column) {
                 if sets[slot.literal as usize].is_empty() {
                     *queue = BitSet::<W>::new();
                     return;

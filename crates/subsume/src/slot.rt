@@ -3,6 +3,7 @@ ghost use Rattle.std.specs.Prelude.{◌≡◌, [], length};
 ghost use Rattle.bounded.specs.Elems.{elems};
 
 use super::bits::BitSet;
+use super::column::{COLUMNS, Column};
 use super::front::Front;
 use bounded::Bounded;
 use term::Node;
@@ -28,6 +29,8 @@ pub struct Slots<const N: usize, const K: usize, const F: usize> {
     // For each front one that follows it, and another that follows the same. No proof rests on them either.
     pub child: [Option<u16>; F],
     pub sibling: [Option<u16>; F],
+    // For the first fronts the columns of their labels.
+    pub columns: Bounded<Option<Column>, COLUMNS>,
 }
 
 impl<const N: usize, const K: usize, const F: usize> Slots<N, K, F> {
@@ -53,6 +56,7 @@ impl<const N: usize, const K: usize, const F: usize> Slots<N, K, F> {
             last: [None; K],
             child: [None; F],
             sibling: [None; F],
+            columns: Bounded::new(None),
         }
     }
 

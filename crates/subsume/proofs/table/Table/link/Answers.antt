@@ -1,4 +1,4 @@
-use Rattle.std.proofs.Common.{◌≡◌, ℕ, List, length, set, ap, ◌∙◌, subst, ⊎_elim, arith}
+use Rattle.std.proofs.Common.{◌≡◌, ℕ, List, length, set, ap, ◌∙◌, subst, sym, ⊎_elim, arith}
 use Rattle.std.proofs.lemmas.List.{get_or-replicate, length-replicate, length-set}
 use Rattle.std.proofs.lemmas.Bool.{cases_eq}
 use Rattle.bounded.specs.Elems.{elems}
@@ -45,7 +45,9 @@ loop-i-preserved g c =
 pub invariant_of-result : goal.invariant_of-result
 invariant_of-result g c = record {
   few = (c.requires.0, c.requires.1, c.requires.2, c.requires.3);
+  wide = c.requires.4;
+  columned = rw (c.as_slice.ensures.value, c.as_slice-3.ensures.value, sym c.len.ensures) c.tabulate.ensures.columned;
   rows = c.loop-i.invariant.rows;
   opened = c.loop-i.invariant.opened;
-  linked = rw (c.as_slice.ensures.value, c.as_slice-2.ensures.value) c.loop-i.invariant.linked;
+  linked = rw (c.as_slice.ensures.value, c.as_slice-2.ensures.value, c.tabulate.ensures.same.1, c.tabulate.ensures.same.0) c.loop-i.invariant.linked;
 }

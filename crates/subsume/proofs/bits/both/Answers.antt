@@ -1,5 +1,5 @@
 use Rattle.std.proofs.lemmas.Nat.Bits.{bit_at_and}
-use Rattle.subsume.proofs.meeting.both.Goals as goal
+use Rattle.subsume.proofs.bits.both.Goals as goal
 
 pub returns : goal.returns
 returns c k = bit_at_and c.args.word c.args.other k
