@@ -208,7 +208,7 @@ fn tidied_in<const N: usize, const K: usize, const V: usize, const W: usize>(
     clause: View<'_>,
 ) -> Option<Bounded<usize, 16>>
     requires few { (length clause.starts.now ≤ N) × (N ≤ 256) }
-    requires room { (K ≤ 65536) × (W ≤ 1024) }
+    requires room { (K ≤ 65536) × (W ≤ 1024) × (0 < W) }
     requires small { (length clause.nodes.now ≤ V) × (V ≤ 65535) }
     requires variables { Below V clause.nodes.now }
     ensures { Leaves clause.entry.nodes.now (literals_at clause.entry.nodes.now clause.entry.starts.now) result }
@@ -220,7 +220,7 @@ fn tidied_in<const N: usize, const K: usize, const V: usize, const W: usize>(
     };
     let words = Targets::<V>::new(clause);
     let mut own = Slots::<N, K, FRONTS>::new();
-    let whole = Table::<N, W>::link(clause, &words, &mut own);
+    let whole = Table::<N, W>::link(clause, &words, &mut own, u32::MAX);
     let mut slots = Slots::<N, K, FRONTS>::new();
     let (mut image, mut mapped) = all_of::<N>(clause);
     let mut at = 0;
@@ -229,7 +229,7 @@ fn tidied_in<const N: usize, const K: usize, const V: usize, const W: usize>(
             nodes: clause.nodes,
             starts: image.as_slice(),
         };
-        let table = Table::<N, W>::link(view, &words, &mut slots);
+        let table = Table::<N, W>::link(view, &words, &mut slots, u32::MAX);
         match pass::<N, V, W>(&whole, &table, &mapped, at, &mut decided) {
             Outcome::Whole => return Some(decided.kept),
             Outcome::Full => return None,

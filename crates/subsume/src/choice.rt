@@ -7,7 +7,7 @@ ghost use Rattle.subsume.specs.Steps.{NoneFrom, FirstFrom, Begun};
 ghost use Rattle.subsume.specs.FirstChoices.{Chooses, FirstChoice};
 
 use super::check::check;
-use super::front::FRONTS;
+use super::front::{FRONTS, MOST};
 use super::places::Targets;
 use super::slot::Slots;
 use super::state::State;
@@ -128,7 +128,7 @@ impl View<'_> {
     {
         let targets = Targets::<V>::new(other);
         let mut slots = Slots::<N, K, FRONTS>::new();
-        let table = Table::<N, W>::link(self, &targets, &mut slots);
+        let table = Table::<N, W>::link(self, &targets, &mut slots, MOST);
         let (state, choice) = table.begin();
         table.first_from::<V>(state, choice)
     }

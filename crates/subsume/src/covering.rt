@@ -1,9 +1,9 @@
 // Whether one clause covers another (subsumes it).
-ghost use Rattle.std.specs.Prelude.{◌<◌, ◌≤◌, length, Decides};
+ghost use Rattle.std.specs.Prelude.{◌<◌, ◌≤◌, length, Decides, IfSome};
 ghost use Rattle.term.specs.Matched.{Below};
 ghost use Rattle.clauses.specs.Clauses.{Covers, literals_at};
 
-use super::front::FRONTS;
+use super::front::{FEW_FRONTS, FRONTS, MOST};
 use super::places::Targets;
 use super::slot::Slots;
 use super::table::Table;
@@ -23,11 +23,28 @@ impl View<'_> {
     {
         // Labels are places among the other's nodes, slots are places among these nodes, and there are mostly no more variables
         // than nodes: where these are few, one word and 64 slots hold them all, and are quicker.
-        if self.nodes.len() <= 64 && other.nodes.len() <= 64 {
-            self.covers_by::<N, 64, V, 1>(other)
-        } else {
-            self.covers_by::<N, K, V, W>(other)
+        if self.nodes.len() > 64 || other.nodes.len() > 64 {
+            return self.covers_by::<N, K, V, W>(other);
         }
+        match self.covers_quickly::<N, V>(other) {
+            Some(covers) => covers,
+            None => self.covers_by::<N, 64, V, 1>(other),
+        }
+    }
+
+    // The same, where few fronts are enough.
+    fn covers_quickly<const N: usize, const V: usize>(self, other: View<'_>) -> Option<bool>
+        requires few { (length self.starts.now ≤ N) × (length other.starts.now ≤ N) × (N ≤ 256) × (length other.nodes.now ≤ V) }
+        requires variables { Below V self.nodes.now × (V ≤ 65535) }
+        ensures { IfSome result (λ covers. Decides covers (Covers (literals_at self.entry.nodes.now self.entry.starts.now) (literals_at other.entry.nodes.now other.entry.starts.now))) }
+    {
+        let targets = Targets::<V>::new(other);
+        let mut slots = Slots::<N, 64, FEW_FRONTS>::new();
+        let table = Table::<N, 1>::link(self, &targets, &mut slots, MOST);
+        if table.fronts.len() == FEW_FRONTS {
+            return None;
+        }
+        Some(table.solvable::<V>(table.start()))
     }
 
     // The same, with sets of that size.
@@ -41,7 +58,7 @@ impl View<'_> {
     {
         let targets = Targets::<V>::new(other);
         let mut slots = Slots::<N, K, FRONTS>::new();
-        let table = Table::<N, W>::link(self, &targets, &mut slots);
+        let table = Table::<N, W>::link(self, &targets, &mut slots, MOST);
         table.solvable::<V>(table.start())
     }
 }

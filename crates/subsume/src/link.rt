@@ -23,6 +23,7 @@ impl<'a, const N: usize, const W: usize> Table<'a, N, W> {
         literals: View<'a>,
         targets: &Targets<'a, P>,
         slots: &'a mut Slots<N, K, F>,
+        most: u32,
     ) -> Table<'a, N, W>
         requires { (length literals.starts.now ≤ N) × (length targets.now.view.starts.now ≤ N) × (N ≤ 256) × (W ≤ 1024) × (0 < W) × (0 < F) }
         ensures { (result.literals ≡ literals.entry) × (result.targets ≡ targets.entry.now.view) }
@@ -42,6 +43,7 @@ impl<'a, const N: usize, const W: usize> Table<'a, N, W> {
             columns: slots.columns.as_slice(),
             first: &slots.first,
             last: &slots.last,
+            most,
             candidates,
         }
     }

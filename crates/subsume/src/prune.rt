@@ -173,7 +173,7 @@ impl<const N: usize, const W: usize> Table<'_, N, W> {
     }
 
     // Strikes out the candidates that give the variable `x` a label that is not marked. The variables of literals that lose
-    // a candidate come into the queue; where a literal has lost its last, nothing more need be looked at.
+    // a candidate, and keep few, come into the queue; where a literal has lost its last, nothing more need be looked at.
     fn strike(&self, x: usize, marks: &BitSet<W>, sets: &mut [BitSet<4>], queue: &mut BitSet<W>)
         requires rows { length self.now.literals.starts.now ≤ length sets.old }
         requires shared { Shared self.now.fronts.now self.now.slots.now (length self.now.literals.starts.now) (length self.now.targets.starts.now) sets.old x marks.now.words }
@@ -192,7 +192,9 @@ impl<const N: usize, const W: usize> Table<'_, N, W> {
                     *queue = BitSet::<W>::new();
                     return;
                 }
-                self.enqueue(slot.literal as usize, queue);
+                if sets[slot.literal as usize].count() <= self.most {
+                    self.enqueue(slot.literal as usize, queue);
+                }
             }
             at = slot.before;
         }

@@ -116,6 +116,9 @@ impl<const N: usize, const W: usize> Table<'_, N, W> {
     {
         // By number: picks lent in place beside the sets are refused, and by `zip` or `enumerate` over both the proof did not close.
         for i in 0..self.literals.len() {
+            if let Some(_) = state.picks[i] {
+                continue;
+            }
             if let Some(j) = settled(&state.sets[i], self.targets.len()) {
                 state.picks[i] = Some(j as u16);
             }

@@ -25,6 +25,8 @@ pub struct Table<'a, const N: usize, const W: usize> {
     // For each literal its first slot, and for each variable its last. Pruning is quicker for them, and no proof rests on them.
     pub first: &'a [usize],
     pub last: &'a [Option<u16>],
+    // What a literal loses that keeps more targets than this is not followed up: that seldom helps. No proof rests on it.
+    pub most: u32,
     // For each literal the targets that it meets without a clash.
     pub candidates: Candidates<N>,
     // How many literals there may be stands here, since pruning and each step of the search need it.
