@@ -74,7 +74,7 @@ module _ (labels : List ℕ) (j : ℕ) (supports : List ℕ) (others : ℕ) (low
         past = λ i h s. let n : i ≢ j = λ e. omega (arith, e, h) in left i s n ∙ f.past i (omega (arith, h)) s;
       }
 
-pub supported : (met labels supports : List ℕ) (others given : ℕ) (long : length supports ≡ 64) → length labels ≤ 64 → Filled labels (length labels) supports others → Given met labels (length labels) (given ∷ [])
+pub supported : (met labels supports : List ℕ) (others given : ℕ) (long : length supports ≡ 64) → length labels ≤ 16 → Filled labels (length labels) supports others → Given met labels (length labels) (given ∷ [])
     → Supported met labels (record { supports = supports; others = others; given = given; sized = long })
 unfolding bit_at
 supported met labels supports others given long few f g =

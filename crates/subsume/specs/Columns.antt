@@ -9,7 +9,7 @@ use Rattle.subsume.specs.Choices.{Shows, front_at}
 -- a column has for each label just the targets that have it, beside them what is no target, and just the labels that the
 -- targets of a set give
 pub record Supported (met labels : List ℕ) (column : Column) : Type 0 where
-  pub few : length labels ≤ 64
+  pub few : length labels ≤ 16
   pub small : (j : ℕ) → j < length labels → slice_index labels j < 64
   pub here : (j : ℕ) → j < length labels → bit (slice_index column.supports (slice_index labels j)) j ≡ 1
   pub only : (l j : ℕ) → bit (slice_index column.supports l) j ≡ 1 → (j < length labels) × (slice_index labels j ≡ l)

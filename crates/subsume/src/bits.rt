@@ -193,9 +193,9 @@ pub(super) fn either(word: u64, other: u64) -> u64
     word | other
 }
 
-// A word with one bit more.
-pub(super) fn with(word: u64, k: usize) -> u64
-    requires { k < 64 }
+// A short word with one bit more.
+pub(super) fn with(word: u16, k: usize) -> u16
+    requires { k < 16 }
     ensures here { bit result k ≡ 1 }
     ensures others { (l : ℕ) → (l ≢ k) → bit result l ≡ bit word l }
 {

@@ -174,7 +174,9 @@ impl<const N: usize, const K: usize, const F: usize> Slots<N, K, F> {
         ensures columned { Columned (elems self.new.fronts) n (elems self.new.columns) }
     {
         self.columns.truncate(0);
-        for r in 0..COLUMNS {
+        // No slot has front 0.
+        let _ = self.columns.push(None);
+        for r in 1..self.fronts.len().min(COLUMNS) {
             let column = self.column_of(r, n);
             let _ = self.columns.push(column);
         }

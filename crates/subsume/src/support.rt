@@ -8,11 +8,11 @@ use super::column::Column;
 use super::prune::given;
 
 impl Column {
-    // The column of labels; or none, where there are more targets than a word has bits, or greater labels.
+    // The column of labels; or none, where there are more targets, or greater labels.
     pub fn of(met: &BitSet<4>, labels: &[u16]) -> Option<Column>
         ensures { IfSome result (λ column. Supported met.now.words labels.now column) }
     {
-        if labels.len() > 64 {
+        if labels.len() > 16 {
             return None;
         }
         let mut supports = [0; 64];
@@ -42,7 +42,7 @@ impl Column {
         let mut rest = marks.words[0];
         while rest != 0 {
             let (label, others) = part(rest);
-            kept = either(kept, self.supports[label]);
+            kept = either(kept, u64::from(self.supports[label]));
             rest = others;
         }
         both(word, kept)

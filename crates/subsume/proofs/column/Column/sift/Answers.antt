@@ -7,7 +7,7 @@ loop-rest-init g c = brought-none c.args.self.now c.args.marks.now.words
 
 pub loop-rest-preserved : goal.loop-rest-preserved
 loop-rest-preserved g c =
-    brought-more c.args.self.now c.args.marks.now.words c.loop-rest.rest c.loop-rest.kept c.part-label.result.0 c.part-label.result.1 c.either-kept.result c.part-label.ensures c.either-kept.ensures c.loop-rest.invariant
+    brought-more c.args.self.now c.args.marks.now.words c.loop-rest.rest c.loop-rest.kept c.part-label.result.0 c.part-label.result.1 c.either-kept.result c.part-label.ensures (rw c.from.ensures at c.either-kept.ensures) c.loop-rest.invariant
 
 pub returns : goal.returns
 returns g c met labels s =
