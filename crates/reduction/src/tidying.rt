@@ -192,23 +192,26 @@ pub fn tidied(clause: View<'_>) -> Option<Bounded<usize, 16>>
     ensures { Leaves clause.entry.nodes.now (literals_at clause.entry.nodes.now clause.entry.starts.now) result }
 {
     // What is small is tidied in less room, and so in less time.
-    if clause.len() <= 16 && clause.nodes.len() <= 256 {
-        tidied_in::<16, 128, 256, 4>(clause)
+    if clause.len() <= 16 && clause.nodes.len() <= 64 {
+        tidied_in::<16, 64, 64, 1, 65>(clause)
+    } else if clause.len() <= 16 && clause.nodes.len() <= 256 {
+        tidied_in::<16, 128, 256, 4, FRONTS>(clause)
     } else if clause.len() <= 64 && clause.nodes.len() <= 512 {
-        tidied_in::<64, 256, 512, 8>(clause)
+        tidied_in::<64, 256, 512, 8, FRONTS>(clause)
     } else if clause.nodes.len() <= 1024 {
-        tidied_in::<256, 1024, 1024, 16>(clause)
+        tidied_in::<256, 1024, 1024, 16, FRONTS>(clause)
     } else {
-        tidied_in::<256, 1024, 4096, 64>(clause)
+        tidied_in::<256, 1024, 4096, 64, FRONTS>(clause)
     }
 }
 
-// The same with room for N literals, K slots, V variables and nodes, and W words of 64 bits for sets of words and of variables.
-fn tidied_in<const N: usize, const K: usize, const V: usize, const W: usize>(
+// The same with room for N literals, K slots, V variables and nodes, W words of 64 bits for sets of words and of variables,
+// and F fronts.
+fn tidied_in<const N: usize, const K: usize, const V: usize, const W: usize, const F: usize>(
     clause: View<'_>,
 ) -> Option<Bounded<usize, 16>>
     requires few { (length clause.starts.now ≤ N) × (N ≤ 256) }
-    requires room { (K ≤ 65536) × (W ≤ 1024) × (0 < W) }
+    requires room { (K ≤ 65536) × (W ≤ 1024) × (0 < W) × (0 < F) × (F ≤ 256) }
     requires small { (length clause.nodes.now ≤ V) × (V ≤ 65535) }
     requires variables { Below V clause.nodes.now }
     ensures { Leaves clause.entry.nodes.now (literals_at clause.entry.nodes.now clause.entry.starts.now) result }
@@ -219,9 +222,9 @@ fn tidied_in<const N: usize, const K: usize, const V: usize, const W: usize>(
         gone: BitSet::new(),
     };
     let words = Targets::<V>::new(clause);
-    let mut own = Slots::<N, K, FRONTS>::new();
+    let mut own = Slots::<N, K, F>::new();
     let whole = Table::<N, W>::link(clause, &words, &mut own, u32::MAX);
-    let mut slots = Slots::<N, K, FRONTS>::new();
+    let mut slots = Slots::<N, K, F>::new();
     let (mut image, mut mapped) = all_of::<N>(clause);
     let mut at = 0;
     loop {
