@@ -9,6 +9,7 @@ ghost use Rattle.subsume.specs.FirstChoices.{Chooses, FirstChoice};
 use super::check::check;
 use super::front::{FRONTS, MOST};
 use super::places::Targets;
+use super::search::Order;
 use super::slot::Slots;
 use super::state::State;
 use super::table::Table;
@@ -57,8 +58,15 @@ impl<const N: usize, const W: usize> Table<'_, N, W> {
         (self.start(), Bounded::new(0))
     }
 
-    // Whether the next literal may take the target `j`. Where it says no, nothing that goes on so works.
-    fn may_take<const V: usize>(&self, state: &State<N>, choice: &Bounded<u16, N>, j: usize) -> bool
+    // Whether the next literal may take the target `j`. Where it says no, nothing that goes on so works. What is known are the
+    // choices that a search found last: it need not find again what they say.
+    fn may_take<const V: usize>(
+        &self,
+        state: &State<N>,
+        choice: &Bounded<u16, N>,
+        j: usize,
+        known: &mut [Option<u16>; N],
+    ) -> bool
         requires variables { Below V self.now.literals.nodes.now × (V ≤ 65536) }
         requires literal { length (elems choice.now) < length self.now.literals.starts.now }
         requires target { j < length self.now.targets.starts.now }
@@ -66,7 +74,19 @@ impl<const N: usize, const W: usize> Table<'_, N, W> {
         ensures { result ≡ false → NoneFrom (literals_at self.now.literals.nodes.now self.now.literals.starts.now) (literals_at self.now.targets.nodes.now self.now.targets.starts.now) (elems choice.now ++ j ∷ []) }
     {
         let i = choice.len();
-        state.sets[i].test(j) && self.solvable::<V>(self.take(state, i, j))
+        if !state.sets[i].test(j) {
+            return false;
+        }
+        if known[i] == Some(j as u16) {
+            return true;
+        }
+        match self.search::<V>(self.take(state, i, j), &mut Order::new()) {
+            Some(picks) => {
+                *known = picks;
+                true
+            }
+            None => false,
+        }
     }
 
     // The first choice that works, of those that begin with this one.
@@ -74,6 +94,7 @@ impl<const N: usize, const W: usize> Table<'_, N, W> {
         &self,
         state: State<N>,
         choice: Bounded<u16, N>,
+        known: &mut [Option<u16>; N],
     ) -> Option<Bounded<u16, N>>
         requires variables { Below V self.now.literals.nodes.now × (V ≤ 65536) }
         requires begun { Begun self.now.literals.nodes.now self.now.literals.starts.now self.now.targets.nodes.now self.now.targets.starts.now (elems choice) state.sets state.picks }
@@ -83,14 +104,27 @@ impl<const N: usize, const W: usize> Table<'_, N, W> {
             return self.works::<V>(choice.as_slice()).then_some(choice);
         }
         for j in 0..self.targets.len() {
-            if self.may_take::<V>(&state, &choice, j) {
+            if self.may_take::<V>(&state, &choice, j, known) {
                 let (next, longer) = self.take_next(&state, &choice, j);
-                if let Some(first) = self.first_from::<V>(next, longer) {
+                if let Some(first) = self.first_from::<V>(next, longer, known) {
                     return Some(first);
                 }
             }
         }
         None
+    }
+
+    // The first of all choices that work.
+    fn first<const V: usize>(&self) -> Option<Bounded<u16, N>>
+        requires variables { Below V self.now.literals.nodes.now × (V ≤ 65536) }
+        ensures { let rule = literals_at self.now.literals.nodes.now self.now.literals.starts.now in let mount = literals_at self.now.targets.nodes.now self.now.targets.starts.now in MatchOption result (NoneFrom rule mount []) (λ first. FirstFrom rule mount [] (elems first)) }
+    {
+        let (state, choice) = self.begin();
+        // One search decides what would else take one for each target of the first literal.
+        let Some(mut known) = self.search::<V>(state.copied(), &mut Order::new()) else {
+            return None;
+        };
+        self.first_from::<V>(state, choice, &mut known)
     }
 }
 
@@ -105,10 +139,6 @@ impl View<'_> {
         requires variables { Below V self.nodes.now × (V ≤ 65535) }
         ensures { MatchOption result (Covers (literals_at self.entry.nodes.now self.entry.starts.now) (literals_at other.entry.nodes.now other.entry.starts.now) → ⊥) (λ choice. FirstChoice (literals_at self.entry.nodes.now self.entry.starts.now) (literals_at other.entry.nodes.now other.entry.starts.now) (elems choice)) }
     {
-        // One search decides what would else take one for each target of the first literal.
-        if !self.covers::<N, K, V, W>(other) {
-            return None;
-        }
         // As in `covers`.
         if self.nodes.len() <= 64 && other.nodes.len() <= 64 {
             self.first_by::<N, 64, V, 1>(other)
@@ -129,7 +159,6 @@ impl View<'_> {
         let targets = Targets::<V>::new(other);
         let mut slots = Slots::<N, K, FRONTS>::new();
         let table = Table::<N, W>::link(self, &targets, &mut slots, MOST);
-        let (state, choice) = table.begin();
-        table.first_from::<V>(state, choice)
+        table.first::<V>()
     }
 }

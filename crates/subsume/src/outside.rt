@@ -120,10 +120,7 @@ impl<const N: usize, const W: usize> Table<'_, N, W> {
         requires none { (i : ℕ) → i < length self.now.literals.starts.now → pick start.now.picks i ≡ None }
         ensures { (kept before : List ℕ) → Within before gone.now.words → SparedOutside self.now.literals.nodes.now self.now.literals.starts.now self.now.targets.nodes.now self.now.targets.starts.now kept before start.now.sets → Apart kept gone.now.words (literals_at self.now.targets.nodes.now self.now.targets.starts.now) → MatchOption result ((θ : ℕ → Word) → All (λ l. Outside gone.now.words (literals_at self.now.targets.nodes.now self.now.targets.starts.now) (sub θ l)) (literals_at self.now.literals.nodes.now self.now.literals.starts.now) → Stays kept (literals_at self.now.targets.nodes.now self.now.targets.starts.now) θ → ⊥) (λ picks. ChoosesOutside gone.now.words (literals_at self.now.literals.nodes.now self.now.literals.starts.now) (literals_at self.now.targets.nodes.now self.now.targets.starts.now) (picked picks)) }
     {
-        let mut state = State {
-            sets: start.sets,
-            picks: start.picks,
-        };
+        let mut state = start.copied();
         self.strike_out(&mut state, gone);
         self.search::<V>(state, order)
     }

@@ -14,3 +14,16 @@ pub struct State<const N: usize> {
     ghost rows: { length sets ≡ N },
     ghost sized: { length picks ≡ N },
 }
+
+impl<const N: usize> State<N> {
+    // The same once more. No `Clone`: the toolchain's may fail, and this does not.
+    pub(super) fn copied(&self) -> State<N>
+        ensures sets { result.sets ≡ self.now.sets }
+        ensures picks { result.picks ≡ self.now.picks }
+    {
+        State {
+            sets: self.sets,
+            picks: self.picks,
+        }
+    }
+}
