@@ -206,7 +206,8 @@ pub fn tidied(clause: View<'_>) -> Option<Bounded<usize, 16>>
 }
 
 // The same with room for N literals, K slots, V variables and nodes, W words of 64 bits for sets of words and of variables,
-// and F fronts.
+// and F fronts. Never inlined: else what is small would walk down the stack of what is large.
+#[inline(never)]
 fn tidied_in<const N: usize, const K: usize, const V: usize, const W: usize, const F: usize>(
     clause: View<'_>,
 ) -> Option<Bounded<usize, 16>>

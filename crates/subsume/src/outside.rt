@@ -132,6 +132,7 @@ impl<const N: usize, const W: usize> Table<'_, N, W> {
     {
         let mut part = BitSet::<4>::new();
         let mut queue = BitSet::<4>::new();
+        let mut seen = BitSet::<W>::new();
         for (i, start) in self.literals.starts.iter().enumerate() {
             if *start == self.targets.starts[j] {
                 queue.include(i);
@@ -142,13 +143,20 @@ impl<const N: usize, const W: usize> Table<'_, N, W> {
                 break;
             };
             part.include(k);
-            self.enqueue_beside(k, &part, &mut queue);
+            self.enqueue_beside(k, &part, &mut queue, &mut seen);
         }
         part
     }
 
-    // Puts the literals that share a variable with literal `k` into the queue, but those that are done.
-    fn enqueue_beside(&self, k: usize, done: &BitSet<4>, queue: &mut BitSet<4>)
+    // Puts the literals that share a variable with literal `k` into the queue, but those that are done. Variables that were seen
+    // are passed over, as far as there is room to note them.
+    fn enqueue_beside(
+        &self,
+        k: usize,
+        done: &BitSet<4>,
+        queue: &mut BitSet<4>,
+        seen: &mut BitSet<W>,
+    )
         ensures { Within queue.old.words queue.new.words }
     {
         let first = self.first.get(k).copied().unwrap_or(0);
@@ -157,6 +165,12 @@ impl<const N: usize, const W: usize> Table<'_, N, W> {
                 break;
             }
             let x = slot.variable as usize;
+            if x < 64 * W {
+                if seen.test(x) {
+                    continue;
+                }
+                seen.include(x);
+            }
             let mut at = self.last.get(x).copied().flatten();
             for _ in 0..self.slots.len() {
                 let Some(beside) = self.slot(at, x) else {
