@@ -13,7 +13,7 @@ use term::{Node, Pair, WordAt, fellows, join_word};
 impl RawClause {
     // The clause without literals.
     #[tactic(auto, unfolding(term::specs::Coding::Whole, term::specs::Coding::decode))]
-    pub(crate) fn new() -> RawClause
+    pub fn new() -> RawClause
         ensures { literals result ≡ [] }
     {
         RawClause {

@@ -1,6 +1,6 @@
 // Joins of two clauses.
 use super::notation::{clause, joined};
-use joining::raw_clause;
+use joining::{RawClause, raw_clause};
 use std::process::Abort;
 use std::test::Fail;
 
@@ -65,7 +65,8 @@ fn raw(rt: &impl Abort, first: &str, second: &str, join: &str) -> Result<(), Fai
     let left = clause(first)?;
     let right = clause(second)?;
     let wanted = clause(join)?;
-    let joined = raw_clause(left.view(), right.view());
+    let mut joined = RawClause::new();
+    raw_clause(left.view(), right.view(), &mut joined);
     assert_eq!(rt; joined.view().nodes, wanted.nodes(), "{first} and {second}");
     Ok(())
 }

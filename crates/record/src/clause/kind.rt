@@ -10,7 +10,7 @@ ghost use Rattle.record.specs.Reductions.{Reduces, Tidying, Joining};
 
 use super::Record;
 use class::{Kind, Refusal};
-use joining::raw_clause;
+use joining::{RawClause, raw_clause};
 use reduction::{renumbered_clause, tidied};
 use subsume::View;
 
@@ -52,7 +52,8 @@ impl Kind for Record {
         ensures joined { Joined records self.old other.now result self.new }
         ensures value { Joining self.old other.now result self.new }
     {
-        let raw = raw_clause(self.view(), other.view());
+        let mut raw = RawClause::new();
+        raw_clause(self.view(), other.view(), &mut raw);
         match reduced(raw.view()) {
             Some(rest) => {
                 *self = rest;

@@ -4,7 +4,7 @@ use Rattle.joining.proofs.Turns.{joined-none, room-next, joined-below, joining-m
 use Rattle.joining.proofs.join.raw_clause.Goals as goal
 
 pub loop-i-init : goal.loop-i-init
-loop-i-init c = joined-none c.args.first c.args.second c.requires.begun c.new-clause.result (elems c.new-pairs.result) c.new-clause.ensures c.new-pairs.ensures c.requires.small
+loop-i-init c = joined-none c.args.first c.args.second c.requires.begun c.args.clause.now (elems c.new-pairs.result) c.requires.empty c.new-pairs.ensures c.requires.small
 
 pub add-requires-clause-room : goal.add-requires-clause-room
 add-requires-clause-room c =
