@@ -18,6 +18,7 @@ use Rattle.witness.specs.Witness.{Witnessed, too_few_entries}
 use Rattle.witness.specs.declared.witnesses.TooFewEntries.{TooFewEntries}
 use Rattle.cehmoli.specs.Answers.{answered, none, refused, first_unread, second_unread}
 use Rattle.cehmoli.specs.declared.answers.Answer.{Answer}
+use Rattle.cehmoli.specs.declared.inputs.Both.{Both}
 use Rattle.cehmoli.specs.declared.inputs.Unread.{Unread}
 use Rattle.cehmoli.specs.declared.inputs.Unread.TheVariants.{First, Second}
 
@@ -27,10 +28,10 @@ ReadsOne r (Ok x) = r ≡ Ok (literals x)
 ReadsOne r (Err e) = r ≡ Err e
 
 -- two inputs are read: the records that they are; or the first is none; or the first is one, and the second is none
-abbrev pub ReadsBoth : (first second : Result Words RecordFault) → Result (Record × Record) Unread → Type 0
-ReadsBoth first second (Ok p) = (first ≡ Ok (literals p.0)) × (second ≡ Ok (literals p.1))
-ReadsBoth first second (Err (First e)) = first ≡ Err e
-ReadsBoth first second (Err (Second e)) = (xs : Words) × (first ≡ Ok xs) × (second ≡ Err e)
+abbrev pub ReadsBoth : (first second : Result Words RecordFault) → Result (Unit {0}) Unread → (after : Both) → Type 0
+ReadsBoth first second (Ok _) after = (first ≡ Ok (literals after.first)) × (second ≡ Ok (literals after.second))
+ReadsBoth first second (Err (First e)) after = first ≡ Err e
+ReadsBoth first second (Err (Second e)) after = (xs : Words) × (first ≡ Ok xs) × (second ≡ Err e)
 
 -- of two records the call says `Of`; else it tells which input is no record, and what was lent stays
 abbrev pub OfBoth : (first second : Result Words RecordFault) → Answer → (before after : List ℕ) → (Of : Words → Words → Type 0) → Type 0

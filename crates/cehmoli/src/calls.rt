@@ -8,7 +8,7 @@ ghost use Rattle.cehmoli.specs.Answers.{refused};
 ghost use Rattle.cehmoli.specs.Calls.{CoversCall, WitnessCall, JoinAnswer, JoinCall, SessionAnswer, Settled};
 
 use super::answers::Answer;
-use super::inputs::read_both;
+use super::inputs::Both;
 use class::Kind;
 use record::Record;
 use session::session;
@@ -33,9 +33,10 @@ pub extern "C" fn cehmoli_session(input: &[u8], out: &mut [u8]) -> Answer
 pub extern "C" fn cehmoli_covers(rule: &[u8], mount: &[u8]) -> Answer
     ensures { CoversCall rule.now mount.now result }
 {
-    match read_both(rule, mount) {
-        Ok((rule, mount)) => {
-            if rule.covers(&mount) {
+    let mut both = Both::new();
+    match both.read(rule, mount) {
+        Ok(()) => {
+            if both.first.covers(&both.second) {
                 Answer::answered(1)
             } else {
                 Answer::none()
@@ -53,8 +54,9 @@ pub extern "C" fn cehmoli_witness(rule: &[u8], mount: &[u8], list: &mut [u16]) -
     ensures one { Settled (WitnessCall rule.now mount.now list.old) }
     ensures enough { 256 ≤ length list.old → result ≢ refused too_few_entries }
 {
-    match read_both(rule, mount) {
-        Ok((rule, mount)) => match witness(&rule, &mount, list) {
+    let mut both = Both::new();
+    match both.read(rule, mount) {
+        Ok(()) => match witness(&both.first, &both.second, list) {
             Ok(Some(count)) => Answer::answered(count),
             Ok(None) => Answer::none(),
             Err(refusal) => Answer::refused(refusal.question()),
@@ -71,8 +73,9 @@ pub extern "C" fn cehmoli_join(first: &[u8], second: &[u8], out: &mut [u8]) -> A
     ensures one { Settled (JoinCall first.now second.now out.old) }
     ensures enough { 1539 ≤ length out.old → result ≢ refused no_room }
 {
-    match read_both(first, second) {
-        Ok((first, second)) => put_join(first, &second, out),
+    let mut both = Both::new();
+    match both.read(first, second) {
+        Ok(()) => put_join(both.first, &both.second, out),
         Err(unread) => unread.answer(),
     }
 }

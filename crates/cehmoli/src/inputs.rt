@@ -1,6 +1,8 @@
 // Inputs that are packed records, one or two.
 ghost use Rattle.std.specs.Prelude.{◌≡◌};
+ghost use Rattle.term.specs.Words.{nil};
 ghost use Rattle.record.specs.Reads.{read_record};
+ghost use Rattle.record.specs.Records.{literals};
 ghost use Rattle.cehmoli.specs.Answers.{unread};
 ghost use Rattle.cehmoli.specs.Calls.{ReadsOne, ReadsBoth};
 
@@ -35,11 +37,30 @@ pub(super) fn read(input: &[u8]) -> Result<Record, RecordFault>
     Ok(record)
 }
 
-// The records whose packed forms the inputs are.
-pub(super) fn read_both(first: &[u8], second: &[u8]) -> Result<(Record, Record), Unread>
-    ensures { ReadsBoth (read_record first.now) (read_record second.now) result }
-{
-    let first = read(first).map_err(Unread::First)?;
-    let second = read(second).map_err(Unread::Second)?;
-    Ok((first, second))
+// Two records, the first and the second input's. They are filled in place, since they are large.
+#[derive(Clone, Copy)]
+pub(super) struct Both {
+    pub first: Record,
+    pub second: Record,
+}
+
+impl Both {
+    // Two records without literals.
+    pub(super) fn new() -> Both
+        ensures first { literals result.first ≡ nil }
+        ensures second { literals result.second ≡ nil }
+    {
+        Both {
+            first: Record::new(),
+            second: Record::new(),
+        }
+    }
+
+    // Become the records whose packed forms the inputs are.
+    pub(super) fn read(&mut self, first: &[u8], second: &[u8]) -> Result<(), Unread>
+        ensures { ReadsBoth (read_record first.now) (read_record second.now) result self.new }
+    {
+        self.first.read(first).map_err(Unread::First)?;
+        self.second.read(second).map_err(Unread::Second)
+    }
 }

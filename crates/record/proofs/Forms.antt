@@ -105,13 +105,13 @@ refused input before fault e = record {
 }
 
 -- what an answer says of the definition
-built : (R : Result (Words × ℕ) RecordFault) (r : Record) (end : ℕ) → Builds R (Ok (r, end)) → R ≡ Ok (literals r, end)
+built : (R : Result (Words × ℕ) RecordFault) (r : Record) (end : ℕ) → Builds R (Ok end) r → R ≡ Ok (literals r, end)
 built (Ok p) r end b = λ i. Ok (sym b.0 i, sym b.1 i)
 built (Err fault) r end b = absurd b
 
-unbuilt : (R : Result (Words × ℕ) RecordFault) (fault : RecordFault) → Builds R (Err fault) → R ≡ Err fault
-unbuilt (Ok p) fault b = absurd b
-unbuilt (Err d) fault b = ap Err (sym b)
+unbuilt : (R : Result (Words × ℕ) RecordFault) (fault : RecordFault) (r : Record) → Builds R (Err fault) r → R ≡ Err fault
+unbuilt (Ok p) fault r b = absurd b
+unbuilt (Err d) fault r b = ap Err (sym b)
 
 module _ (input : List ℕ) (bytes : (i : ℕ) → get_or input i 0 < 256) (before : Record) where
   pub answer-number : (fault : NumberFault) → read_number input 0 ≡ Err fault → Answer input before (Err (Number fault)) before
@@ -121,13 +121,13 @@ module _ (input : List ℕ) (bytes : (i : ℕ) → get_or input i 0 < 256) (befo
     pub answer-many : 16 < count → Answer input before (Err (Literals 0)) before
     answer-many h = refused input before (Literals 0) (read-many input bytes count next number h)
 
-    pub answer-refused : (fault : RecordFault) → count ≤ 16 → Builds (read_literals count nil input next) (Err fault) → Answer input before (Err fault) before
-    answer-refused fault h b = refused input before fault (read-stopped input bytes count next number fault h (unbuilt (read_literals count nil input next) fault b))
+    pub answer-refused : (fault : RecordFault) (r : Record) → count ≤ 16 → Builds (read_literals count nil input next) (Err fault) r → Answer input before (Err fault) before
+    answer-refused fault r h b = refused input before fault (read-stopped input bytes count next number fault h (unbuilt (read_literals count nil input next) fault r b))
 
-    pub answer-left : (r : Record) (end : ℕ) → count ≤ 16 → Builds (read_literals count nil input next) (Ok (r, end)) → end < length input → Answer input before (Err (Left end)) before
+    pub answer-left : (r : Record) (end : ℕ) → count ≤ 16 → Builds (read_literals count nil input next) (Ok end) r → end < length input → Answer input before (Err (Left end)) before
     answer-left r end h b g = refused input before (Left end) (read_left input bytes count next number (literals r) end h (built (read_literals count nil input next) r end b) g)
 
-    pub answer-read : (r : Record) (end : ℕ) → count ≤ 16 → Builds (read_literals count nil input next) (Ok (r, end)) → length input ≤ end → Answer input before (Ok tt) r
+    pub answer-read : (r : Record) (end : ℕ) → count ≤ 16 → Builds (read_literals count nil input next) (Ok end) r → length input ≤ end → Answer input before (Ok tt) r
     answer-read r end h b g =
         let e = built (read_literals count nil input next) r end b in
         record {

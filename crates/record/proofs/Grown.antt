@@ -1,5 +1,6 @@
 -- One literal more in a list of nodes.
-use Rattle.std.proofs.Common.{◌≡◌, ℕ, suc, ◌+◌, ◌-◌, ◌<◌, Bool, true, false, List, [], ◌∷◌, ◌++◌, length, get_or, take, Ok, Err, Result, sym, refl, ap, ◌∙◌, subst, ap₂, append_assoc, append-nil, arith, length-append}
+use Rattle.std.proofs.Common.{◌≡◌, ℕ, suc, ◌+◌, ◌-◌, ◌<◌, ◌≤◌, Bool, true, false, List, [], ◌∷◌, ◌++◌, length, get_or, take, Ok, Err, Result, sym, refl, ap, ◌∙◌, subst, ap₂, append_assoc, append-nil, arith, length-append}
+use Rattle.std.specs.List.{between}
 use Rattle.std.proofs.lemmas.List.{take_all, take_at, drop_at, length_push}
 use Rattle.bounded.specs.declared.list.Full.{Full}
 use Rattle.bounded.specs.Elems.{Pushed}
@@ -13,7 +14,7 @@ use Rattle.term.proofs.Codings.{code-decode, codes-more, decode-all, decode-one,
 use Rattle.term.proofs.Substitutions.{size-pos}
 use Rattle.term.proofs.Laws.{stood-more, lawful-stand}
 use Rattle.word.specs.declared.fault.WordFault.{WordFault}
-use Rattle.word.specs.Packed.{seen_after}
+use Rattle.word.specs.Packed.{packed, seen_after}
 use Rattle.word.specs.Reads.{read_words, Gives}
 use Rattle.word.proofs.Exact.{words-added}
 use Rattle.record.specs.declared.fault.LiteralFault.{LiteralFault}
@@ -22,9 +23,10 @@ use Rattle.record.specs.declared.literal.Head.{Head}
 use Rattle.record.specs.Clauses.{variables, stands}
 use Rattle.clauses.specs.Beginnings.{begins}
 use Rattle.record.specs.Reads.{words_from, Inside, head_at, differs, read_literal, Grows}
+use Rattle.word.proofs.Laws.{packed_more, between_join}
 use Rattle.word.proofs.Turns.{gave-fault, gave-words}
 use Rattle.record.proofs.Words.{words-alone, fault-alone, seen_all}
-use Rattle.record.proofs.Literals.{head-room}
+use Rattle.record.proofs.Literals.{head-stands, head-room}
 use Rattle.record.proofs.Tests.{varss-push}
 use Rattle.record.proofs.Places.{from-begins}
 use Rattle.clauses.proofs.Beginnings.{inside-begins}
@@ -39,6 +41,9 @@ pub record Finished (old : List Node) (input : List ℕ) (at : ℕ) (after : Lis
   pub nodes : after ≡ old ++ code literal
   pub counts : new ≡ variables (decode after)
   pub asked : read_literal (decode old) input at ≡ differs (decode old) at literal to
+  pub forward : at ≤ to
+  pub inside : to ≤ length input
+  pub bytes : between at to input ≡ packed (code literal)
 
 module _ (old : List Node) (whole : Whole old) where
   pub held : sizes (decode old) ≡ length old
@@ -95,6 +100,7 @@ module _ (old : List Node) (whole : Whole old) where
           let says = lawful-stand nodes h.places seen (ap (λ (l : List Node). lawful l h.places seen) same ∙ added.stand.words) in
           let us = decode nodes in
           let l = app h.symbol us in
+          let head = head-stands (length old) input at bytes h read in
           let spells : Applied h.symbol h.places ∷ nodes ≡ code l = sym (ap₂ (λ (k : ℕ) (ns : List Node). Applied h.symbol k ∷ ns) says.count (code-decode nodes says.whole)) in
           let all : after ≡ old ++ code l = w.2 ∙ ap (λ (ns : List Node). ns ++ nodes) pushed ∙ append_assoc old (Applied h.symbol h.places ∷ []) nodes ∙ ap (λ (ns : List Node). old ++ ns) spells in
           record {
@@ -107,6 +113,12 @@ module _ (old : List Node) (whole : Whole old) where
                 ∙ ap (λ (n : ℕ). stood n (varss us)) counted
                 ∙ sym (ap (λ (ns : List Node). variables (decode ns)) all ∙ variables-grown l);
             asked = rw (here, words);
+            forward = omega (arith, head.forward, added.forward);
+            inside = added.inside head.inside;
+            bytes =
+                between_join input at h.next to head.forward added.forward
+                ∙ ap₂ ◌++◌ head.bytes (added.stand.bytes ∙ ap packed (sym same))
+                ∙ sym (ap packed (sym spells) ∙ packed_more (Applied h.symbol h.places) nodes);
           }
 
     -- the same from what the calls promise: the predicate was read and put, and then its words were read

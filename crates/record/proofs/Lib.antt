@@ -1,5 +1,6 @@
 pub mod Tests
 pub mod Places
+pub mod Marks
 pub mod Words
 pub mod Literals
 pub mod Grown

@@ -43,15 +43,15 @@ predicate-small value h =
     (λ _. le-leb (value / 2) 32767 (omega arith))
 
 -- a predicate with its count of places stands from `at` to the place after them
-record HeadStands (held : ℕ) (input : List ℕ) (at : ℕ) (h : Head) : Type 0 where
-  room : held < 256
-  forward : at ≤ h.next
-  inside : h.next ≤ length input
-  symbol : predicative h.symbol ≡ true
-  few : h.places ≤ 8
-  bytes : between at h.next input ≡ packed_node (Applied h.symbol h.places)
+pub record HeadStands (held : ℕ) (input : List ℕ) (at : ℕ) (h : Head) : Type 0 where
+  pub room : held < 256
+  pub forward : at ≤ h.next
+  pub inside : h.next ≤ length input
+  pub symbol : predicative h.symbol ≡ true
+  pub few : h.places ≤ 8
+  pub bytes : between at h.next input ≡ packed_node (Applied h.symbol h.places)
 
-head-stands : (held : ℕ) (input : List ℕ) (at : ℕ) → ((i : ℕ) → get_or input i 0 < 256) → (h : Head) → head_at held input at ≡ Ok h → HeadStands held input at h
+pub head-stands : (held : ℕ) (input : List ℕ) (at : ℕ) → ((i : ℕ) → get_or input i 0 < 256) → (h : Head) → head_at held input at ≡ Ok h → HeadStands held input at h
 unfolding head_at
 head-stands held input at bytes h e =
     let p = then-made InNumber (read_number input at) _ h e in

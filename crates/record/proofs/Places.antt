@@ -45,7 +45,7 @@ stands-not w u us h =
     let n : ¬ (w ≡ u) = λ e. true≢false (sym (stands-first w u us e) ∙ h) in
     (n, sym (stands-later w u us n) ∙ h)
 
-stands-push : (w v : Word) (us : Words) → stands w us ≡ false → ¬ (w ≡ v) → stands w (us +++ cons v nil) ≡ false
+pub stands-push : (w v : Word) (us : Words) → stands w us ≡ false → ¬ (w ≡ v) → stands w (us +++ cons v nil) ≡ false
 unfolding stands
 stands-push w v nil h n = stands-later w v nil n
 stands-push w v (cons u us) h n = let p = stands-not w u us h in stands-later w u (us +++ cons v nil) p.0 ∙ stands-push w v us p.1 n

@@ -1,5 +1,6 @@
 -- Reading literals, one after the other.
 use Rattle.std.proofs.Common.{◌≡◌, ℕ, zero, suc, ◌+◌, ◌-◌, ◌<◌, List, Ok, Err, Result, sym, refl, ap, ◌∙◌, sub-one, arith}
+use Rattle.std.specs.Prelude.{IfOk}
 use Rattle.number.proofs.Answers.{clash, ok_same}
 use Rattle.term.specs.Words.{Word, Words, nil, cons, ◌+++◌, len}
 use Rattle.word.specs.Then.{then}
@@ -53,15 +54,20 @@ module _ (before : Words) (input : List ℕ) (at : ℕ) (after : Words) (literal
       let found : told ≡ in_literal literal fault = cc in
       (fault, sym e, found)
 
+-- what holds after an answer that is no fault
+pub answer-kept : (P : Type 0) (k : ℕ) (answer : Result (ℕ × ℕ) LiteralFault) (r : Result (ℕ × ℕ) RecordFault) → r ≡ then (in_literal k) answer (λ p. Ok p) → (p : ℕ × ℕ) → r ≡ Ok p → IfOk answer (λ _. P) → P
+answer-kept P k (Ok q) r is p was h = h
+answer-kept P k (Err fault) r is p was h = absurd (clash (in_literal k fault) p (sym is ∙ was))
+
 -- the end of the loop
-pub builds-read : (R : Result (Words × ℕ) RecordFault) (r : Record) (at : ℕ) → R ≡ Ok (literals r, at) → Builds R (Ok (r, at))
+pub builds-read : (R : Result (Words × ℕ) RecordFault) (r : Record) (at : ℕ) → R ≡ Ok (literals r, at) → Builds R (Ok at) r
 builds-read R r at e = rw e (refl, refl)
 
 -- one turn of the loop over literals, where k of them stand before
 module _ (count k : ℕ) (before : Words) (input : List ℕ) (at : ℕ) (after : Words) (answer : Result (ℕ × ℕ) LiteralFault) (adds : Adds (read_literal before input at) before answer after)
     (r : Result (ℕ × ℕ) RecordFault) (is : r ≡ then (in_literal k) answer (λ p. Ok p)) (h : k < count) (held : len before ≡ k) (all : Result (Words × ℕ) RecordFault) (left : read_literals (count - k) before input at ≡ all) where
-  pub turn-stopped : (told : RecordFault) → r ≡ Err told → Builds all (Err told)
-  turn-stopped told was =
+  pub turn-stopped : (told : RecordFault) → r ≡ Err told → (x : Record) → Builds all (Err told) x
+  turn-stopped told was x =
       let s = stopped before input at after k (read_literal before input at) refl answer adds r is told was in
       let fault = literals-fault (count - k) before input at s.0 (omega arith) s.1 in
       let same : in_literal (len before) s.0 ≡ told = ap (λ (n : ℕ). in_literal n s.0) held ∙ sym s.2 in

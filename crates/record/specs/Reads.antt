@@ -75,12 +75,12 @@ read_literals zero before input at = Ok (before, at)
 read_literals (suc count) before input at =
     then (in_literal (len before)) (read_literal before input at) (λ r. read_literals count (before +++ cons r.0 nil) input r.1)
 
--- an answer is what the definition gives: a record that holds the literals read, and the place after them; or the fault
-abbrev pub Builds : Result (Words × ℕ) RecordFault → Result (Record × ℕ) RecordFault → Type 0
-Builds (Ok p) (Ok q) = (literals q.0 ≡ p.0) × (q.1 ≡ p.1)
-Builds (Ok p) (Err fault) = ⊥
-Builds (Err fault) (Ok q) = ⊥
-Builds (Err fault) (Err told) = told ≡ fault
+-- an answer is what the definition gives: the place after the literals read, which the record holds; or the fault
+abbrev pub Builds : Result (Words × ℕ) RecordFault → Result ℕ RecordFault → (after : Record) → Type 0
+Builds (Ok p) (Ok to) after = (literals after ≡ p.0) × (to ≡ p.1)
+Builds (Ok p) (Err fault) after = ⊥
+Builds (Err fault) (Ok to) after = ⊥
+Builds (Err fault) (Err told) after = told ≡ fault
 
 -- a count of at most 16, so many literals, and the input used up: the literals, or the fault
 unfoldable pub read_record : List ℕ → Result Words RecordFault

@@ -4,6 +4,7 @@
 mod clause;
 mod fault;
 mod literal;
+mod mark;
 
 pub use clause::Record;
 pub use fault::{InLiteral, LiteralFault, RecordFault};

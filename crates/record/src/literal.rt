@@ -1,12 +1,14 @@
 // Reads one literal into a list of nodes.
-ghost use Rattle.std.specs.Prelude.{◌≡◌, ◌<◌, length};
+ghost use Rattle.std.specs.Prelude.{◌≡◌, ◌<◌, length, IfOk};
 ghost use Rattle.bounded.specs.Elems.{elems};
 ghost use Rattle.term.specs.Coding.{decode, Whole, word_at};
 ghost use Rattle.record.specs.Clauses.{variables, stands};
 ghost use Rattle.clauses.specs.Beginnings.{begins};
+ghost use Rattle.record.specs.Marks.{Marked};
 ghost use Rattle.record.specs.Reads.{words_from, Inside, predicate_of, head_at, read_literal, Grows};
 
 use super::fault::LiteralFault;
+use super::mark::mark_of;
 use bounded::Bounded;
 use term::{Node, Symbol, WordAt};
 
@@ -24,11 +26,12 @@ pub(super) struct Head {
 }
 
 // Reads the literal that begins at `at`, after the literals that begin at `starts`, and puts its nodes at the end of
-// `nodes`; `seen` variables have stood before. Answers the place after the literal and the new `seen`; after a fault the
-// nodes that stood before still do, and others may follow them.
+// `nodes`; `seen` variables have stood before, and the marks of those literals are set. Answers the place after the literal
+// and the new `seen`; after a fault the nodes that stood before still do, and others may follow them.
 pub(super) fn add_literal(
     nodes: &mut Bounded<Node, 256>,
     starts: &[usize],
+    marks: &mut [bool; 256],
     input: &[u8],
     at: usize,
     seen: u16,
@@ -36,7 +39,9 @@ pub(super) fn add_literal(
     requires whole { Whole (elems nodes.old) }
     requires begun { starts.now ≡ begins 0 (decode (elems nodes.old)) }
     requires counted { seen ≡ variables (decode (elems nodes.old)) }
-    ensures { Grows (read_literal (decode (elems nodes.old)) input.now at) (elems nodes.old) result (elems nodes.new) }
+    requires marked { Marked (decode (elems nodes.old)) marks.old }
+    ensures value { Grows (read_literal (decode (elems nodes.old)) input.now at) (elems nodes.old) result (elems nodes.new) }
+    ensures marked { IfOk result (λ _. Marked (decode (elems nodes.new)) marks.new) }
 {
     let start = nodes.len();
     let head = read_head(input, at, start)?;
@@ -46,9 +51,11 @@ pub(super) fn add_literal(
         nodes: nodes.as_slice(),
         start,
     };
-    if stands_among(word, starts) {
+    let mark = mark_of(&input[at..next]);
+    if marks[mark] && stands_among(word, starts) {
         return Err(LiteralFault::Repeated { first: at });
     }
+    marks[mark] = true;
     Ok((next, seen))
 }
 

@@ -1,8 +1,9 @@
 // The packed form of records.
-ghost use Rattle.std.specs.Prelude.{◌≡◌, ◌<◌, ◌≤◌, Ok};
+ghost use Rattle.std.specs.Prelude.{◌≡◌, ◌<◌, ◌≤◌, IfOk, Ok};
 ghost use Rattle.number.specs.Writes.{Wrote};
 ghost use Rattle.term.specs.Words.{nil, len};
 ghost use Rattle.record.specs.Clauses.{variables};
+ghost use Rattle.record.specs.Marks.{Marked};
 ghost use Rattle.record.specs.Records.{literals};
 ghost use Rattle.record.specs.Reads.{read_literal, Adds, read_literals, Builds, read_record, clause_form, Reads, Exactly};
 
@@ -24,7 +25,8 @@ impl Record {
         if count > LITERALS {
             return Err(RecordFault::Literals { first: 0 });
         }
-        let (record, end) = read_literals(input, next, count as usize)?;
+        let mut record = Record::new();
+        let end = read_literals(&mut record, input, next, count as usize)?;
         if end < input.len() {
             return Err(RecordFault::Left { first: end });
         }
@@ -43,21 +45,24 @@ impl Record {
         Ok(end)
     }
 
-    // Reads the literal that begins at `at` and puts it last; `seen` variables have stood before. Answers the place after
-    // it and the new `seen`; after a fault its literals are as they were.
+    // Reads the literal that begins at `at` and puts it last; `seen` variables have stood before, and the marks of its
+    // literals are set. Answers the place after it and the new `seen`; after a fault its literals are as they were.
     fn read_literal(
         &mut self,
+        marks: &mut [bool; 256],
         input: &[u8],
         at: usize,
         seen: u16,
     ) -> Result<(usize, u16), LiteralFault>
         requires room { len (literals self.old) < 16 }
         requires counted { seen ≡ variables (literals self.old) }
-        ensures { Adds (read_literal (literals self.old) input.now at) (literals self.old) result (literals self.new) }
+        requires marked { Marked (literals self.old) marks.old }
+        ensures value { Adds (read_literal (literals self.old) input.now at) (literals self.old) result (literals self.new) }
+        ensures marked { IfOk result (λ _. Marked (literals self.new) marks.new) }
     {
         let start = self.nodes.len();
-        let starts = self.starts;
-        let answer = add_literal(&mut self.nodes, starts.as_slice(), input, at, seen);
+        let starts = self.starts.as_slice();
+        let answer = add_literal(&mut self.nodes, starts, marks, input, at, seen);
         if answer.is_ok() {
             let _ = self.starts.push(start);
         } else {
@@ -67,19 +72,26 @@ impl Record {
     }
 }
 
-// Reads `count` literals that begin at `at`: a record of these, and the place after the last.
-fn read_literals(input: &[u8], mut at: usize, count: usize) -> Result<(Record, usize), RecordFault>
-    requires { count ≤ 16 }
-    ensures { Builds (read_literals count nil input.now at) result }
+// Reads `count` literals that begin at `at` into a record that has none, and answers the place after the last. The record is
+// lent, since it is large.
+fn read_literals(
+    out: &mut Record,
+    input: &[u8],
+    mut at: usize,
+    count: usize,
+) -> Result<usize, RecordFault>
+    requires none { literals out.old ≡ nil }
+    requires few { count ≤ 16 }
+    ensures { Builds (read_literals count nil input.now at) result out.new }
 {
-    let mut record = Record::new();
+    let mut marks = [false; 256];
     let mut seen = 0;
     for k in 0..count {
-        let (next, stood) = record
-            .read_literal(input, at, seen)
+        let (next, stood) = out
+            .read_literal(&mut marks, input, at, seen)
             .map_err(|fault| fault.in_literal(k))?;
         at = next;
         seen = stood;
     }
-    Ok((record, at))
+    Ok(at)
 }

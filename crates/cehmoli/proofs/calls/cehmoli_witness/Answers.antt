@@ -6,4 +6,4 @@ use Rattle.cehmoli.proofs.calls.cehmoli_witness.Goals as goal
 
 pub returns-in-Err-witness-clause-enough : goal.returns-in-Err-witness-clause-enough
 returns-in-Err-witness-clause-enough c = λ h e.
-    absurd (omega (arith, h, c.in-Err-witness.ensures.witnessed.0, few-variables (literals c.in-Ok.rule) (held c.in-Ok.rule)))
+    absurd (omega (arith, h, c.in-Err-witness.ensures.witnessed.0, few-variables (literals c.read.new.self.first) (held c.read.new.self.first)))

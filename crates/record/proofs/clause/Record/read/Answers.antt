@@ -14,18 +14,18 @@ returns-then-count-gt-LITERALS c =
     let a = answer-many c.args.input.now (λ i. (c.type_inv.input i).fits) c.args.self.now c.in_ok-count.count c.in_ok-count.next (sym c.read.ensures.value ∙ c.in_ok-count.was) (omega arith) in
     record { value = a.value; exact = a.exact }
 
-pub returns-in_err-record : goal.returns-in_err-record
-returns-in_err-record c =
-    let p = err_from_is_err_and c.from_residual-in_err-record.result c.from_residual-in_err-record.ensures.1 in
-    let a = answer-refused c.args.input.now (λ i. (c.type_inv.input i).fits) c.args.self.now c.in_ok-count.count c.in_ok-count.next (sym c.read.ensures.value ∙ c.in_ok-count.was) c.in_err-record.field-0.0 (omega arith) c.in_err-record.ensures in
+pub returns-in_err-end : goal.returns-in_err-end
+returns-in_err-end c =
+    let p = err_from_is_err_and c.from_residual-in_err-end.result c.from_residual-in_err-end.ensures.1 in
+    let a = answer-refused c.args.input.now (λ i. (c.type_inv.input i).fits) c.args.self.now c.in_ok-count.count c.in_ok-count.next (sym c.read.ensures.value ∙ c.in_ok-count.was) c.in_err-end.field-0.0 c.read_literals.new.out (omega arith) c.in_err-end.ensures in
     rw (p.1, p.2) (record { value = a.value; exact = a.exact })
 
 pub returns-then-end-input : goal.returns-then-end-input
 returns-then-end-input c =
-    let a = answer-left c.args.input.now (λ i. (c.type_inv.input i).fits) c.args.self.now c.in_ok-count.count c.in_ok-count.next (sym c.read.ensures.value ∙ c.in_ok-count.was) c.in_ok-record.record c.in_ok-record.end (omega arith) c.in_ok-record.ensures c.if-end-input.true in
+    let a = answer-left c.args.input.now (λ i. (c.type_inv.input i).fits) c.args.self.now c.in_ok-count.count c.in_ok-count.next (sym c.read.ensures.value ∙ c.in_ok-count.was) c.read_literals.new.out c.in_ok-end.end (omega arith) c.in_ok-end.ensures c.if-end-input.true in
     record { value = a.value; exact = a.exact }
 
 pub returns : goal.returns
 returns c =
-    let a = answer-read c.args.input.now (λ i. (c.type_inv.input i).fits) c.args.self.now c.in_ok-count.count c.in_ok-count.next (sym c.read.ensures.value ∙ c.in_ok-count.was) c.in_ok-record.record c.in_ok-record.end (omega arith) c.in_ok-record.ensures c.if-end-input.false in
+    let a = answer-read c.args.input.now (λ i. (c.type_inv.input i).fits) c.args.self.now c.in_ok-count.count c.in_ok-count.next (sym c.read.ensures.value ∙ c.in_ok-count.was) c.read_literals.new.out c.in_ok-end.end (omega arith) c.in_ok-end.ensures c.if-end-input.false in
     record { value = a.value; exact = a.exact }
