@@ -225,9 +225,15 @@ fn tidied_in<const N: usize, const K: usize, const V: usize, const W: usize, con
     let words = Targets::<V>::new(clause);
     let mut own = Slots::<N, K, F>::new();
     let whole = Table::<N, W>::link(clause, &words, &mut own, u32::MAX);
+    // At first all literals are in hand, and that table will do.
+    let all = all_of(clause.len());
+    let (mut at, first) = match pass::<N, V, W>(&whole, &whole, &all, 0, &mut decided) {
+        Outcome::Whole => return Some(decided.kept),
+        Outcome::Full => return None,
+        Outcome::Shrunk { next, picks } => (next, picks),
+    };
+    let (mut image, mut mapped) = targets::<N>(clause, &first, clause.len());
     let mut slots = Slots::<N, K, F>::new();
-    let (mut image, mut mapped) = all_of::<N>(clause);
-    let mut at = 0;
     loop {
         let view = View {
             nodes: clause.nodes,
@@ -245,17 +251,14 @@ fn tidied_in<const N: usize, const K: usize, const V: usize, const W: usize, con
     }
 }
 
-// All literals of a clause: where they begin, and their places.
-fn all_of<const N: usize>(clause: View<'_>) -> (Bounded<usize, N>, BitSet<4>)
-    requires { (length clause.starts.now ≤ N) × (N ≤ 256) }
-    ensures starts { elems result.0 ≡ clause.entry.starts.now }
-    ensures places { (j : ℕ) → j < length clause.entry.starts.now → bit_at result.1.words j ≡ 1 }
+// The places of the first `n` literals.
+fn all_of(n: usize) -> BitSet<4>
+    requires { n ≤ 256 }
+    ensures { (j : ℕ) → j < n → bit_at result.words j ≡ 1 }
 {
-    let mut starts = Bounded::new(0);
     let mut places = BitSet::<4>::new();
-    for (j, start) in clause.starts.iter().enumerate() {
-        let _ = starts.push(*start);
+    for j in 0..n {
         places.include(j);
     }
-    (starts, places)
+    places
 }

@@ -200,6 +200,12 @@ abbrev pub Tabled : {N : ℕ} → List (Front N) → (n r : ℕ) → List (Optio
 Tabled fronts n r columns =
     (q : ℕ) (column : Column) → q < r → q < length fronts → get_or columns q None ≡ Some column → Supported (front_at fronts q).met.words (take n (front_at fronts q).labels) column
 
+pub tabled-first : {N : ℕ} (fronts : List (Front N)) (n : ℕ) (columns : List (Option Column)) → columns ≡ None ∷ [] → Tabled fronts n 1 columns
+tabled-first fronts n columns e q column early h is =
+    let zero' : q ≡ 0 = omega (arith, early) in
+    let none = subst (λ (z : List (Option Column)). get_or z q None ≡ Some column) e is in
+    absurd (none-some column (subst (λ (x : ℕ). get_or (None ∷ []) x None ≡ Some column) zero' none))
+
 module _ {N : ℕ} (fronts : List (Front N)) (n r : ℕ) (columns : List (Option Column)) (long : length columns ≡ r) (t : Tabled fronts n r columns) where
   pub tabled-more : (new : Option Column) → (r < length fronts → IfSome new (λ column. Supported (front_at fronts r).met.words (take n (front_at fronts r).labels) column)) → Tabled fronts n (r + 1) (columns ++ new ∷ [])
   tabled-more new here q column early h is =

@@ -176,7 +176,12 @@ impl<const N: usize, const K: usize, const F: usize> Slots<N, K, F> {
         self.columns.truncate(0);
         // No slot has front 0.
         let _ = self.columns.push(None);
-        for r in 1..self.fronts.len().min(COLUMNS) {
+        // Where few slots share a front, columns are not worth their time.
+        let fronts = self.fronts.len();
+        if self.rows.len() < fronts.saturating_mul(2) {
+            return;
+        }
+        for r in 1..fronts.min(COLUMNS) {
             let column = self.column_of(r, n);
             let _ = self.columns.push(column);
         }
