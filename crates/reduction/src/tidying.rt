@@ -192,7 +192,9 @@ pub fn tidied(clause: View<'_>) -> Option<Bounded<usize, 16>>
     ensures { Leaves clause.entry.nodes.now (literals_at clause.entry.nodes.now clause.entry.starts.now) result }
 {
     // What is small is tidied in less room, and so in less time.
-    if clause.len() <= 16 && clause.nodes.len() <= 64 {
+    if clause.len() <= 16 && clause.nodes.len() <= 64 && clause.wanted_fronts() <= 8 {
+        tidied_in::<16, 64, 64, 1, 8>(clause)
+    } else if clause.len() <= 16 && clause.nodes.len() <= 64 {
         tidied_in::<16, 64, 64, 1, 65>(clause)
     } else if clause.len() <= 16 && clause.nodes.len() <= 256 {
         tidied_in::<16, 128, 256, 4, FRONTS>(clause)

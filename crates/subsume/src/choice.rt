@@ -141,23 +141,29 @@ impl View<'_> {
     {
         // As in `covers`.
         if self.nodes.len() <= 64 && other.nodes.len() <= 64 {
-            self.first_by::<N, 64, V, 1>(other)
+            if self.wanted_fronts() <= 8 {
+                self.first_by::<N, 64, V, 1, 8>(other)
+            } else {
+                self.first_by::<N, 64, V, 1, FRONTS>(other)
+            }
         } else {
-            self.first_by::<N, K, V, W>(other)
+            self.first_by::<N, K, V, W, FRONTS>(other)
         }
     }
 
-    // The same by one choice after the other, with sets of that size.
-    fn first_by<const N: usize, const K: usize, const V: usize, const W: usize>(
+    // The same by one choice after the other, with sets of that size, and F fronts.
+    #[inline(never)]
+    fn first_by<const N: usize, const K: usize, const V: usize, const W: usize, const F: usize>(
         self,
         other: View<'_>,
     ) -> Option<Bounded<u16, N>>
         requires few { (length self.starts.now ≤ N) × (length other.starts.now ≤ N) × (N ≤ 256) × (K ≤ 65536) × (W ≤ 1024) × (0 < W) × (length other.nodes.now ≤ V) }
+        requires fronts { (0 < F) × (F ≤ 256) }
         requires variables { Below V self.nodes.now × (V ≤ 65535) }
         ensures { MatchOption result (Covers (literals_at self.entry.nodes.now self.entry.starts.now) (literals_at other.entry.nodes.now other.entry.starts.now) → ⊥) (λ choice. FirstChoice (literals_at self.entry.nodes.now self.entry.starts.now) (literals_at other.entry.nodes.now other.entry.starts.now) (elems choice)) }
     {
         let targets = Targets::<V>::new(other);
-        let mut slots = Slots::<N, K, FRONTS>::new();
+        let mut slots = Slots::<N, K, F>::new();
         let table = Table::<N, W>::link(self, &targets, &mut slots, MOST);
         table.first::<V>()
     }

@@ -5,10 +5,8 @@ use super::bits::BitSet;
 use std::alloc::AllocError;
 use term::Node;
 
-// How many fronts help to decide whether one clause covers another; and how many do where few are enough.
+// How many fronts help to decide whether one clause covers another, at most.
 pub const FRONTS: usize = 64;
-
-pub const FEW_FRONTS: usize = 40;
 
 // Of a literal that keeps more targets than this, what it loses is not followed up where one clause covers another.
 pub const MOST: u32 = 4;

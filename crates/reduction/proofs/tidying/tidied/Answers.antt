@@ -16,3 +16,6 @@ tidied_in-requires-else-clause-le1024-clause-variables c = let N = c.args.clause
 
 pub tidied_in-requires-then-clause-le512-clause-variables : goal.tidied_in-requires-then-clause-le512-clause-variables
 tidied_in-requires-then-clause-le512-clause-variables c = let N = c.args.clause.nodes.now in below_more (length N) 512 N c.if-clause-le512.true c.requires.variables
+
+pub tidied_in-requires-then-clause-le64-2-clause-variables : goal.tidied_in-requires-then-clause-le64-2-clause-variables
+tidied_in-requires-then-clause-le64-2-clause-variables c = let N = c.args.clause.nodes.now in below_more (length N) 64 N c.if-clause-le64-2.true c.requires.variables
