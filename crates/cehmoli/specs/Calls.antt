@@ -28,10 +28,10 @@ ReadsOne r (Ok x) = r ≡ Ok (literals x)
 ReadsOne r (Err e) = r ≡ Err e
 
 -- two inputs are read: the records that they are; or the first is none; or the first is one, and the second is none
-abbrev pub ReadsBoth : (first second : Result Words RecordFault) → Result (Unit {0}) Unread → (after : Both) → Type 0
-ReadsBoth first second (Ok _) after = (first ≡ Ok (literals after.first)) × (second ≡ Ok (literals after.second))
-ReadsBoth first second (Err (First e)) after = first ≡ Err e
-ReadsBoth first second (Err (Second e)) after = (xs : Words) × (first ≡ Ok xs) × (second ≡ Err e)
+abbrev pub ReadsBoth : (first second : Result Words RecordFault) → Result (Unit {0}) Unread → (before after : Both) → Type 0
+ReadsBoth first second (Ok _) before after = (first ≡ Ok (literals after.first)) × (second ≡ Ok (literals after.second))
+ReadsBoth first second (Err (First e)) before after = (first ≡ Err e) × (literals after.first ≡ literals before.first) × (after.second ≡ before.second)
+ReadsBoth first second (Err (Second e)) before after = (first ≡ Ok (literals after.first)) × (second ≡ Err e) × (literals after.second ≡ literals before.second)
 
 -- of two records the call says `Of`; else it tells which input is no record, and what was lent stays
 abbrev pub OfBoth : (first second : Result Words RecordFault) → Answer → (before after : List ℕ) → (Of : Words → Words → Type 0) → Type 0

@@ -58,7 +58,7 @@ impl Both {
 
     // Become the records whose packed forms the inputs are.
     pub(super) fn read(&mut self, first: &[u8], second: &[u8]) -> Result<(), Unread>
-        ensures { ReadsBoth (read_record first.now) (read_record second.now) result self.new }
+        ensures { ReadsBoth (read_record first.now) (read_record second.now) result self.old self.new }
     {
         self.first.read(first).map_err(Unread::First)?;
         self.second.read(second).map_err(Unread::Second)

@@ -8,7 +8,7 @@ use Rattle.std.proofs.lemmas.Option.{none-some}
 use Rattle.subsume.specs.declared.column.Column.{Column}
 use Rattle.subsume.specs.declared.front.Front.{Front}
 use Rattle.subsume.specs.Bits.{bit_at, Parted}
-use Rattle.subsume.specs.Choices.{Shows, Given, front_at}
+use Rattle.subsume.specs.Choices.{Given, front_at}
 use Rattle.subsume.specs.Columns.{Supported, SiftedWord, Columned}
 
 -- the first j targets stand where they must

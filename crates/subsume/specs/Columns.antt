@@ -1,5 +1,5 @@
 -- Columns: targets by their labels.
-use Rattle.std.specs.Prelude.{◌≡◌, ℕ, ◌*◌, ◌<◌, ◌≤◌, List, length, take, slice_index, slice_index_or, Some, None, Option, ◌≢◌}
+use Rattle.std.specs.Prelude.{◌≡◌, ℕ, ◌<◌, ◌≤◌, List, length, take, slice_index, slice_index_or, Some, None, Option, ◌≢◌}
 use Rattle.std.specs.Int.{bit_at as bit}
 use Rattle.subsume.specs.declared.column.Column.{Column}
 use Rattle.subsume.specs.declared.front.Front.{Front}

@@ -1,6 +1,5 @@
-use Rattle.std.proofs.Common.{ℕ, ◌≤◌, ◌≡◌, ◌/◌, ◌∙◌, set, get_or, arith}
+use Rattle.std.proofs.Common.{◌∙◌, set, arith}
 use Rattle.std.proofs.lemmas.List.{get_or-set_same}
-use Rattle.subsume.specs.Bits.{bit_at}
 use Rattle.subsume.proofs.Columns.{labels-given}
 use Rattle.subsume.proofs.Sets.{other-word}
 use Rattle.subsume.proofs.column.Column.labels.Goals as goal

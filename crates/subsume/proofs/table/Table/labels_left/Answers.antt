@@ -1,7 +1,7 @@
 use Rattle.std.proofs.Common.{ℕ, ◌≤◌, List, length, take, ap, sym, ◌∙◌, subst, arith}
 use Rattle.std.proofs.lemmas.List.{get_or_default}
 use Rattle.subsume.specs.declared.front.Front.{Front}
-use Rattle.subsume.specs.Choices.{Given, no_front, front_at, labels_of}
+use Rattle.subsume.specs.Choices.{Given, no_front, front_at}
 use Rattle.subsume.proofs.Pruning.{given-first}
 use Rattle.subsume.proofs.table.Table.labels_left.Goals as goal
 
