@@ -153,8 +153,8 @@ Tidying is asked as a session of one record, since the library has no call for i
 ## Not in the table
 
 Neither has a bound on its time, and there are inputs on which one is out of all proportion. Of 48,000 more random pairs of 16 literals of one predicate
-of two places, over constants, over variables or over both, the longest join by the library took 32 milliseconds. `bench/hard-pair.hex` holds two records
-of constants: plain Rust refuses their join after 14 seconds, the library after 5 milliseconds, since its search prefers the literals that
+of two places, over constants, over variables or over both, the longest join by the library took 43 milliseconds. `bench/hard-pair.hex` holds two records
+of constants: plain Rust refuses their join after 14 seconds, the library after 4 milliseconds, since its search prefers the literals that
 were often left without a target.
 
 ## Growth
