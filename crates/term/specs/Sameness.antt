@@ -20,3 +20,10 @@ same_node-Decides (Applied s k) (Applied t l) =
     let d = Decides-and _ _ (same_symbol-Decides s t) (Decides-eqb k l) in
     (λ e. ap₂ Applied (d.0 e).0 (d.0 e).1, λ e. d.1 (cc, cc))
 same_node-Decides x y = (λ e. cc, λ e. cc)
+
+-- what the two equalities tell, as `equality_is_exact` promises it
+abbrev pub SymbolsExact : Type 0
+SymbolsExact = (s t : Symbol) → Decides (same_symbol.it s t) (s ≡ t)
+
+abbrev pub NodesExact : Type 0
+NodesExact = (x y : Node) → Decides (same_node.it x y) (x ≡ y)
