@@ -1,5 +1,5 @@
--- Marks of literals: numbers below 256 that are made of their packed forms.
-use Rattle.std.specs.Prelude.{◌≡◌, ℕ, ◌+◌, ◌*◌, ◌/◌, ◌%◌, Bool, true, false, List, [], ◌∷◌, get_or}
+-- Marks of literals: numbers below 256 that are made of the first bytes of their packed forms.
+use Rattle.std.specs.Prelude.{◌≡◌, ℕ, ◌+◌, ◌*◌, ◌/◌, ◌%◌, Bool, true, false, List, [], ◌∷◌, get_or, take}
 use Rattle.term.specs.Coding.{code}
 use Rattle.term.specs.Words.{Word, Words}
 use Rattle.word.specs.Packed.{packed}
@@ -11,7 +11,7 @@ mixed_with mixed [] = mixed
 mixed_with mixed (byte ∷ form) = mixed_with ((mixed + byte) * 40503 % 65536) form
 
 abbrev pub mark_of : List ℕ → ℕ
-mark_of form = mixed_with 0 form / 256
+mark_of form = mixed_with 0 (take 32 form) / 256
 
 -- the mark of each of the words is set
 abbrev pub Marked : Words → List Bool → Type 0

@@ -1,14 +1,12 @@
-use Rattle.std.proofs.Common.{ℕ, ◌/◌, sym, ap, ◌∙◌, arith}
-use Rattle.std.proofs.lemmas.List.{drop_more, drop_all}
+use Rattle.std.proofs.Common.{ℕ, ◌/◌, take, sym, ap, ◌∙◌}
+use Rattle.std.proofs.lemmas.List.{drop_all, take_min}
 use Rattle.record.specs.Marks.{mixed_with}
 use Rattle.record.proofs.mark.mark_of.Goals as goal
 
-pub loop-byte-preserved : goal.loop-byte-preserved
-loop-byte-preserved c =
-    let more = drop_more c.args.form.now c.loop-byte.byte-index 0 (omega arith) in
-    (omega arith, sym (ap (mixed_with c.loop-byte.mixed) more) ∙ c.loop-byte.invariant.1)
-
-pub returns : goal.returns
-returns c =
-    let all = sym (ap (mixed_with c.loop-byte.mixed) (drop_all c.loop-byte.byte-index c.args.form.now (omega arith))) ∙ c.loop-byte.invariant.1 in
-    record { value = ap (λ (n : ℕ). n / 256) all; bound = omega arith }
+pub returns-clause-value : goal.returns-clause-value
+returns-clause-value c =
+    let form = c.args.form.now in
+    let mixed = c.loop-byte.mixed in
+    let all = sym (ap (mixed_with mixed) (drop_all c.loop-byte.byte-index (take c.min.result form) c.loop-byte-test.false)) ∙ c.loop-byte.invariant.1 in
+    let front = ap (λ (n : ℕ). take n form) c.min.ensures ∙ take_min 32 form in
+    ap (λ (n : ℕ). n / 256) (all ∙ ap (mixed_with 0) front)
