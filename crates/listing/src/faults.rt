@@ -1,5 +1,5 @@
 // The line of a fault that has layers.
-ghost use Rattle.std.specs.Prelude.{◌≡◌, ℕ, List, Some, Option, IfOk, string_bytes};
+ghost use Rattle.std.specs.Prelude.{◌≡◌, ℕ, ◌++◌, List, Some, Option, IfOk, string_bytes};
 ghost use Rattle.word.specs.declared.fault.Layer.{Layer as AnyLayer};
 ghost use Rattle.listing.specs.FaultLines.{layer_names, literal_part, layered_line};
 
@@ -40,29 +40,31 @@ pub(super) fn layered_line<F: Layered>(heap: Global, fault: &F) -> Result<String
     let origin = fault.origin();
     let question = origin.question;
     let byte = origin.byte;
-    let part = literal_part(heap, origin.literal)?;
-    let names = layer_names(heap, origin.layers)?;
-    format!(in heap; "fault {question} at byte {byte}{part} in {names}: {fault}\n")
+    let mut text = format!(in heap; "fault {question} at byte {byte}")?;
+    push_literal(&mut text, origin.literal)?;
+    text.push_str(" in ")?;
+    push_layers(&mut text, origin.layers)?;
+    write!(text, ": {fault}\n")?;
+    Ok(text)
 }
 
-// The literal in hand, if there is one.
-fn literal_part(heap: Global, literal: Option<usize>) -> Result<String, AllocError>
-    ensures { IfOk result (λ s. string_bytes s ≡ literal_part literal) }
+// Puts the literal in hand, if there is one, at the end of the text.
+fn push_literal(text: &mut String, literal: Option<usize>) -> Result<(), AllocError>
+    ensures { IfOk result (λ _. string_bytes text.new ≡ string_bytes text.old ++ literal_part literal) }
 {
     match literal {
-        None => format!(in heap; ""),
-        Some(k) => format!(in heap; " of literal {k}"),
+        None => Ok(()),
+        Some(k) => write!(text, " of literal {k}"),
     }
 }
 
-// The layers of a fault, from where it arose upward.
-fn layer_names(heap: Global, layers: &[Layer]) -> Result<String, AllocError>
-    ensures { IfOk result (λ s. string_bytes s ≡ layer_names layers.now) }
+// Puts the layers of a fault, from where it arose upward, at the end of the text.
+fn push_layers(text: &mut String, layers: &[Layer]) -> Result<(), AllocError>
+    ensures { IfOk result (λ _. string_bytes text.new ≡ string_bytes text.old ++ layer_names layers.now) }
 {
-    let mut text = String::new(heap);
     for (k, layer) in layers.iter().enumerate() {
         text.push_str(divider("", k))?;
         write!(text, "{layer}")?;
     }
-    Ok(text)
+    Ok(())
 }

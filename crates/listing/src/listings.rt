@@ -14,13 +14,14 @@ pub struct Listing<F> {
 
 // What `list_place` and `list_record` share.
 impl<F: Layered> Listing<F> {
-    // Of a thing that was read and is shown so.
-    pub(super) fn whole(heap: Global, shown: &str) -> Result<Listing<F>, AllocError>
-        ensures text { IfOk result (λ l. string_bytes l.text ≡ shown.now ++ codes "\n") }
+    // Of a thing that was read and is shown so. The text is taken over, so that it is not copied.
+    pub(super) fn whole(mut shown: String) -> Result<Listing<F>, AllocError>
+        ensures text { IfOk result (λ l. string_bytes l.text ≡ string_bytes shown ++ codes "\n") }
         ensures fault { IfOk result (λ l. l.fault ≡ None) }
     {
+        shown.push_str("\n")?;
         Ok(Listing {
-            text: format!(in heap; "{shown}\n")?,
+            text: shown,
             fault: None,
         })
     }

@@ -12,12 +12,13 @@ use std::alloc::{AllocError, Global};
 
 // Lists the place word whose packed form the input is. `list_record` is alike: what they share is in `Listing`, and a trait over
 // both would be longer than what is left of each.
+#[tactic(auto, using(crate::proofs::Made::told_refused), unfolding(crate::specs::PlaceLines::place_listed))]
 pub fn list_place(heap: Global, input: &[u8]) -> Result<Listing<PlaceFault>, AllocError>
     ensures { IfOk result (λ l. (string_bytes l.text, l.fault) ≡ place_listed (read_place input.now)) }
 {
     let mut place = PlaceWord::new();
     match place.read(input) {
-        Ok(()) => Listing::whole(heap, &show_place(heap, &place)?),
+        Ok(()) => Listing::whole(show_place(heap, &place)?),
         Err(fault) => Listing::refused(heap, fault),
     }
 }

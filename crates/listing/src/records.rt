@@ -14,12 +14,13 @@ use std::alloc::{AllocError, Global};
 use term::WordAt;
 
 // Lists the record whose packed form the input is.
+#[tactic(auto, using(crate::proofs::Made::told_refused), unfolding(crate::specs::RecordLines::record_listed))]
 pub fn list_record(heap: Global, input: &[u8]) -> Result<Listing<RecordFault>, AllocError>
     ensures { IfOk result (λ l. (string_bytes l.text, l.fault) ≡ record_listed (read_record input.now)) }
 {
     let mut record = Record::new();
     match record.read(input) {
-        Ok(()) => Listing::whole(heap, &show_record(heap, &record)?),
+        Ok(()) => Listing::whole(show_record(heap, &record)?),
         Err(fault) => Listing::refused(heap, fault),
     }
 }

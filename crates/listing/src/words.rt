@@ -27,7 +27,7 @@ pub(super) fn show_word(text: &mut String, word: WordAt<'_>) -> Result<usize, Al
     ensures { IfOk result (λ j. Next word.entry.nodes.now word.entry.start j × (string_bytes text.new ≡ string_bytes text.old ++ shown (word_at word.entry.nodes.now word.entry.start))) }
 {
     let node = word.nodes[word.start];
-    write!(text, "{}", Name(node))?;
+    push_name(text, node)?;
     let count = places(node);
     let mut at = word.start + 1;
     for n in 0..count {
@@ -36,6 +36,14 @@ pub(super) fn show_word(text: &mut String, word: WordAt<'_>) -> Result<usize, Al
     }
     text.push_str(closing(count))?;
     Ok(at)
+}
+
+// Puts a node without its places at the end of the text. It stands apart so that a level of `show_word` needs less stack.
+#[inline(never)]
+fn push_name(text: &mut String, node: Node) -> Result<(), AllocError>
+    ensures { IfOk result (λ _. string_bytes text.new ≡ string_bytes text.old ++ node_name node) }
+{
+    write!(text, "{}", Name(node))
 }
 
 // What stands before the text in place `n` of several: `first` before the first of them, a comma before the others.

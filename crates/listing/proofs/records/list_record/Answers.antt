@@ -1,9 +1,7 @@
-use Rattle.std.proofs.Common.{◌≡◌, ◌++◌, codes, None, sym, ap, ◌∙◌}
+use Rattle.std.proofs.Common.{◌++◌, codes, None, sym, ap, ◌∙◌}
 use Rattle.record.specs.Reads.{read_record}
-use Rattle.record.specs.Records.{literals}
-use Rattle.word.proofs.Becoming.{became, stayed}
+use Rattle.word.proofs.Becoming.{became}
 use Rattle.listing.specs.RecordLines.{record_listed}
-use Rattle.listing.specs.Shown.{shown_clause}
 use Rattle.listing.proofs.Made.{made}
 use Rattle.listing.proofs.records.list_record.Goals as goal
 
@@ -12,11 +10,5 @@ unfolding record_listed
 returns-in_ok-show_record-in-Ok c =
     let r = c.read.new.self in
     let read = became _ (read_record c.args.input.now) c.new-record.result r c.in-Ok.ensures.value in
-    let text : c.deref.result.now ≡ shown_clause (literals r) = c.deref.ensures ∙ c.in_ok-show_record-in-Ok.ensures in
+    let text = c.in_ok-show_record-in-Ok.ensures in
     made _ _ c.whole.result _ _ (record_listed (read_record c.args.input.now)) c.whole.ensures.text c.whole.ensures.fault (ap record_listed read ∙ (λ i. (sym text i ++ codes "\n", None)))
-
-pub returns-in-Err : goal.returns-in-Err
-unfolding record_listed
-returns-in-Err c =
-    let read = stayed _ (read_record c.args.input.now) c.new-record.result c.read.new.self c.in-Err.fault c.in-Err.ensures.value in
-    made _ _ c.refused.result _ _ (record_listed (read_record c.args.input.now)) c.refused.ensures.text c.refused.ensures.fault (ap record_listed read)
