@@ -1,4 +1,4 @@
-use Rattle.std.proofs.Common.{◌≡◌, ◌≤◌, ◌^◌, length, sym, refl, ◌∙◌, subst, arith, rules}
+use Rattle.std.proofs.Common.{◌≡◌, ◌≤◌, ◌^◌, length, sym, refl, subst, arith, rules}
 use Rattle.std.specs.List.{sum_by}
 use Rattle.std.proofs.lemmas.Iterator.{YieldsList-from_slice}
 use Rattle.std.proofs.lemmas.Iterator.Adapters.{fits_from_length, at_most_from_yields_List, serves_from_places}
@@ -19,4 +19,4 @@ pub returns : goal.returns
 unfolding packed
 returns c =
     let all : c.sum.result ≡ sum_by (λ n. length (packed_node n)) c.args.nodes.now = search rules in
-    all ∙ sym (length-flat_map packed_node c.args.nodes.now)
+    omega (arith, all, length-flat_map packed_node c.args.nodes.now)
